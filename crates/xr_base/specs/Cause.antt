@@ -1,0 +1,11 @@
+-- A fault has a cause: the object that failed counted it.
+use Rattle.std.specs.Prelude.{ℕ, ◌+◌, ◌-◌, ◌^◌, ◌≤◌, min, Result, OnErr}
+
+-- the count rose, or stands at its last value
+abbrev pub Rose : ℕ → ℕ → Type 0
+Rose before after = min (before + 1) (2 ^ 64 - 1) ≤ after
+
+-- the count never falls, and after a fault it rose
+pub record HasCause {T E : Type 0} (r : Result T E) (before after : ℕ) : Type 0 where
+  pub kept : before ≤ after
+  pub cause : OnErr r (Rose before after)

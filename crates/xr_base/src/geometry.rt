@@ -1,0 +1,49 @@
+//! The layout of an image, each number named once for code and specs.
+
+/// Bytes of a block.
+pub const BLOCK_BYTES: usize = 4096;
+
+/// Bytes of a sector, the unit in which a disk is read and written.
+pub const SECTOR_BYTES: usize = 512;
+
+/// Blocks of an image.
+pub const BLOCKS: u32 = 8968;
+
+/// Sectors of an image.
+pub const SECTORS: u32 = 71_744;
+
+/// The image block where the log begins.
+pub const FIRST_LOG_BLOCK: u32 = 8;
+
+/// Sectors of the log.
+pub const LOG_SECTORS: u32 = 4096;
+
+/// Files of an image.
+pub const FILES: u32 = 32;
+
+/// The image block where the first file's blocks begin.
+pub const FIRST_FILE_BLOCK: u32 = 520;
+
+/// Blocks of a file: its core and the pool of its tree.
+pub const FILE_BLOCKS: u32 = 8;
+
+/// Offsets of a file, in blocks.
+pub const OFFSETS: u32 = 512;
+
+/// The inode number of file 0. File `f` has the inode number `FIRST_INODE + f`.
+pub const FIRST_INODE: u64 = 128;
+
+/// Allocation groups of an image.
+pub const GROUPS: u32 = 4;
+
+/// The image block where the first group begins.
+pub const FIRST_GROUP_BLOCK: u32 = 776;
+
+/// Blocks of a group.
+pub const GROUP_BLOCKS: u32 = 2048;
+
+/// The first data block of a group. Those below it are its header and the pool of its trees.
+pub const FIRST_DATA_BLOCK: u32 = 512;
+
+/// Data blocks of a group.
+pub const DATA_BLOCKS: u32 = GROUP_BLOCKS - FIRST_DATA_BLOCK;

@@ -1,0 +1,20 @@
+-- What reading a source and filling a sink in many calls do to their bytes. An object that tells nothing has `None`
+-- for them, and each word then says nothing of them.
+use Rattle.std.specs.Prelude.{◌≡◌, ℕ, ◌<◌, ◌≤◌, Option, Some, IfSome, List, ◌++◌, length, take}
+
+-- the bytes are the first of those that were left, so many, or all that there were
+abbrev pub IsFront : Option (List ℕ) → ℕ → List ℕ → Type 0
+IsFront left most bytes = IfSome left (λ all. bytes ≡ take most all)
+
+-- all the bytes were appended to what was held
+abbrev pub PutsAll : Option (List ℕ) → Option (List ℕ) → List ℕ → Type 0
+PutsAll old new bytes = IfSome old (λ held. new ≡ Some (held ++ bytes))
+
+-- the first n bytes were appended to what was held
+pub record PutsFront (old new : Option (List ℕ)) (n : ℕ) (bytes : List ℕ) : Type 0 where
+  pub fits : n ≤ length bytes
+  pub appended : IfSome old (λ held. new ≡ Some (held ++ take n bytes))
+
+-- some of the first bytes were, perhaps none, but not all
+abbrev pub PutsSomeFront : Option (List ℕ) → Option (List ℕ) → List ℕ → Type 0
+PutsSomeFront old new bytes = (n : ℕ) × (n < length bytes) × PutsFront old new n bytes

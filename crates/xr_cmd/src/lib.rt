@@ -1,0 +1,13 @@
+//! The commands of the program: what they read, what they do, and what they print.
+#![tactic(auto)]
+
+mod expect;
+mod fields;
+mod program;
+mod script;
+mod streams;
+mod text;
+mod words;
+
+pub use program::{Ended, without_memory, xreflink};
+pub use script::{MAX_BYTES, MAX_LINES, ScriptFault, parse_steps};

@@ -1,0 +1,10 @@
+pub mod ListLemmas
+pub mod RunsBelow
+pub mod ExtentLemmas
+pub mod TableLemmas
+pub mod CountLemmas
+pub mod CountedRunLemmas
+pub mod GroupRunLemmas
+pub mod MapLemmas
+pub mod OwnerLemmas
+pub mod OrderLemmas

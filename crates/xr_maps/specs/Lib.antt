@@ -1,0 +1,11 @@
+pub mod FileMaps
+pub mod Steps
+pub mod Runs
+pub mod Records
+pub mod Tables
+pub mod Extents
+pub mod Counts
+pub mod FileMapLaws
+pub mod Owners
+pub mod RunLaws
+pub mod RecordLaws

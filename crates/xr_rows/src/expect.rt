@@ -1,0 +1,157 @@
+//! Rows of `expect`: what a script prints, over a source and a sink in memory.
+
+use std::alloc::{AllocError, Global};
+use std::test::Fail;
+use xr_cmd::xreflink;
+use xr_disk::{MemSink, MemSource};
+
+/// What a run ended with, and what it wrote.
+#[derive(Drop)]
+struct Outcome {
+    status: u8,
+    written: Vec<u8>,
+}
+
+fn outcome_of(
+    alloc: Global,
+    words: &[&str],
+    script: &[u8],
+    source_fails: &[u64],
+    sink_fails: &[u64],
+) -> Result<Outcome, AllocError> {
+    let mut source = MemSource::new(
+        Vec::from_slice(alloc, script)?,
+        Vec::from_slice(alloc, source_fails)?,
+    );
+    let mut sink = MemSink::new(alloc, 1 << 20, Vec::from_slice(alloc, sink_fails)?)?;
+    let ended = xreflink(alloc, words, &mut source, &mut sink);
+    Ok(Outcome {
+        status: ended.status,
+        written: Vec::from_slice(alloc, sink.bytes())?,
+    })
+}
+
+const ALL_FREE: &str = "free 512 1536\nfree 2560 1536\nfree 4608 1536\nfree 6656 1536\n";
+
+/// A name, a script and what is printed for it.
+const ROWS: [(&str, &str, &str); 10] = [
+    ("empty input", "", ALL_FREE),
+    (
+        "comments and empty lines alone",
+        "# a\n\n#remap 0 0 1 512",
+        ALL_FREE,
+    ),
+    (
+        "two files share a run",
+        "remap 0 0 4 512\nremap 1 0 4 512\n",
+        "file 0 0 4 512\nfile 1 0 4 512\nowner 512 4 0 0\nowner 512 4 1 0\nshared 512 4 2\nfree 516 1532\nfree 2560 1536\nfree 4608 1536\nfree 6656 1536\n",
+    ),
+    (
+        "one file maps a block twice",
+        "remap 0 0 1 512\nremap 0 7 1 512\n",
+        "file 0 0 1 512\nfile 0 7 1 512\nowner 512 1 0 0\nowner 512 1 0 7\nshared 512 1 2\nfree 513 1535\nfree 2560 1536\nfree 4608 1536\nfree 6656 1536\n",
+    ),
+    (
+        "a record merges on both sides",
+        "remap 3 10 2 600\nremap 3 13 2 603\nremap 3 12 1 602\n",
+        "file 3 10 5 600\nowner 600 5 3 10\nfree 512 88\nfree 605 1443\nfree 2560 1536\nfree 4608 1536\nfree 6656 1536\n",
+    ),
+    (
+        "blocks touch and offsets don't run on",
+        "remap 0 0 2 512\nremap 0 5 2 514\n",
+        "file 0 0 2 512\nfile 0 5 2 514\nowner 512 2 0 0\nowner 514 2 0 5\nfree 516 1532\nfree 2560 1536\nfree 4608 1536\nfree 6656 1536\n",
+    ),
+    (
+        "another group's block, and another file's",
+        "remap 0 0 1 2047\nremap 0 1 1 2560\nremap 1 0 1 2561\n",
+        "file 0 0 1 2047\nfile 0 1 1 2560\nfile 1 0 1 2561\nowner 2047 1 0 0\nowner 2560 1 0 1\nowner 2561 1 1 0\nfree 512 1535\nfree 2562 1534\nfree 4608 1536\nfree 6656 1536\n",
+    ),
+    (
+        "three owners beside two",
+        "remap 0 0 4 512\nremap 1 0 4 512\nremap 2 0 2 512\n",
+        "file 0 0 4 512\nfile 1 0 4 512\nfile 2 0 2 512\nowner 512 4 0 0\nowner 512 4 1 0\nowner 512 2 2 0\nshared 512 2 3\nshared 514 2 2\nfree 516 1532\nfree 2560 1536\nfree 4608 1536\nfree 6656 1536\n",
+    ),
+    (
+        "a remap over a part of an extent",
+        "remap 0 0 4 512\nremap 0 1 2 2560\n",
+        "file 0 0 1 512\nfile 0 1 2 2560\nfile 0 3 1 515\nowner 512 1 0 0\nowner 515 1 0 3\nowner 2560 2 0 1\nfree 513 2\nfree 516 1532\nfree 2562 1534\nfree 4608 1536\nfree 6656 1536\n",
+    ),
+    (
+        "a file onto its own blocks, and the last offset and file",
+        "remap 31 508 4 8188\nremap 31 508 4 8188\nremap 31 504 4 8184\n",
+        "file 31 504 8 8184\nowner 8184 8 31 504\nfree 512 1536\nfree 2560 1536\nfree 4608 1536\nfree 6656 1528\n",
+    ),
+];
+
+#[test]
+fn prints_the_records(rt: HostRuntime) -> Result<(), Fail> {
+    for (name, script, wanted) in ROWS {
+        let outcome = outcome_of(rt.alloc(), &["expect"], script.as_bytes(), &[], &[])?;
+        assert_eq!(rt; outcome.status, 0, "{name}");
+        assert_eq!(rt; outcome.written.as_slice(), wanted.as_bytes(), "{name}");
+    }
+    Ok(())
+}
+
+/// Scripts with a bad line, and its number.
+const BAD_SCRIPTS: [(&str, &str); 15] = [
+    ("remap 0 0 1", "line 1\n"),
+    ("remap 0 0 1 512 1\n", "line 1\n"),
+    ("\n# two\nremap 0 0 01 512\n", "line 3\n"),
+    ("remap 0 0 1 512\nremap +0 0 1 512\n", "line 2\n"),
+    ("remap 0  0 1 512\n", "line 1\n"),
+    ("remap 0 0 1 512 \n", "line 1\n"),
+    (" remap 0 0 1 512\n", "line 1\n"),
+    ("remap 0 0 1 512\r\n", "line 1\n"),
+    ("remap 0 0 1 4294967808\n", "line 1\n"),
+    ("punch 0 0 1\n", "line 1\n"),
+    ("remap 32 0 1 512\n", "line 1\n"),
+    ("remap 0 0 0 512\n", "line 1\n"),
+    ("remap 0 511 2 512\n", "line 1\n"),
+    ("remap 0 0 1 511\n", "line 1\n"),
+    ("remap 0 0 2 2047\n", "line 1\n"),
+];
+
+#[test]
+fn names_the_first_bad_line(rt: HostRuntime) -> Result<(), Fail> {
+    for (script, wanted) in BAD_SCRIPTS {
+        let outcome = outcome_of(rt.alloc(), &["expect"], script.as_bytes(), &[], &[])?;
+        assert_eq!(rt; outcome.status, 3, "{script:?}");
+        assert_eq!(rt; outcome.written.as_slice(), wanted.as_bytes(), "{script:?}");
+    }
+    Ok(())
+}
+
+/// Words, the calls of the source and of the sink that fail, the status and what is written.
+const FAULTS: [(&[&str], &[u64], &[u64], u8, &str); 6] = [
+    (&["expect"], &[1], &[], 4, "source\n"),
+    (&["expect"], &[2], &[], 4, "source\n"),
+    (&["expect"], &[], &[1], 5, ""),
+    (&["expect"], &[1], &[1], 5, ""),
+    (&[], &[1], &[], 2, "words\n"),
+    (&["mkfs", "image"], &[], &[1], 5, ""),
+];
+
+#[test]
+fn ends_with_the_faults_of_the_outside(rt: HostRuntime) -> Result<(), Fail> {
+    for (words, source_fails, sink_fails, status, wanted) in FAULTS {
+        let outcome = outcome_of(
+            rt.alloc(),
+            words,
+            b"remap 0 0 1 512\n",
+            source_fails,
+            sink_fails,
+        )?;
+        assert_eq!(rt;
+            outcome.status,
+            status,
+            "{words:?} {source_fails:?} {sink_fails:?}"
+        );
+        assert_eq!(rt;
+            outcome.written.as_slice(),
+            wanted.as_bytes(),
+            "{words:?} {source_fails:?} {sink_fails:?}"
+        );
+    }
+    Ok(())
+}

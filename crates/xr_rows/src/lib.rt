@@ -1,0 +1,7 @@
+//! Tests that cross crates: worked rows over the objects in memory.
+#![tactic(auto)]
+
+#[cfg(test)]
+mod base;
+#[cfg(test)]
+mod expect;
