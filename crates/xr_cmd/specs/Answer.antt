@@ -8,13 +8,12 @@ use Rattle.xr_cmd.specs.declared.script.ScriptFault.{ScriptFault}
 use Rattle.xr_cmd.specs.declared.script.ScriptFault.TheVariants as script
 use Rattle.xr_cmd.specs.declared.streams.ReadFault.{ReadFault}
 use Rattle.xr_cmd.specs.declared.streams.ReadFault.TheVariants as read
-use Rattle.xr_cmd.specs.declared.words.Command.{Command}
 use Rattle.xr_cmd.specs.declared.words.Command.TheVariants.{Expect}
 use Rattle.xr_cmd.specs.Expect.{Expects}
 use Rattle.xr_cmd.specs.RecordText.{words_text, bad_line_text, source_text, memory_text}
 use Rattle.xr_cmd.specs.Script.{IsFirstBadLine}
 use Rattle.xr_cmd.specs.Streams.{PutsAll, PutsSomeFront}
-use Rattle.xr_cmd.specs.Words.{IsCommand}
+use Rattle.xr_cmd.specs.Words.{IsCommand, IsNoCommand}
 
 -- the number of each status
 abbrev pub code_of : Status → ℕ
@@ -50,7 +49,7 @@ HasFailure left Failed NoMemory = Unit {0}
 -- the status and the text for these words and what was left in the source, where Failed says that the source did
 abbrev pub Says : List (List ℕ) → Option (List ℕ) → Type 0 → Status → List ℕ → Type 0
 Says words left Failed Done text = IsCommand words Expect × ExpectsOf left text
-Says words left Failed Words text = ((command : Command) → ¬ IsCommand words command) × (text ≡ words_text)
+Says words left Failed Words text = IsNoCommand words × (text ≡ words_text)
 Says words left Failed Line text = IsCommand words Expect × ((number : ℕ) × HasBadLine left number × (text ≡ bad_line_text number))
 Says words left Failed Source text = IsCommand words Expect × Failed × (text ≡ source_text)
 Says words left Failed Sink text = ⊥

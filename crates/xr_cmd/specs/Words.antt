@@ -15,3 +15,7 @@ words_of_command Expect = codes "expect" ∷ []
 -- the words ask for the command
 abbrev pub IsCommand : List (List ℕ) → Command → Type 0
 IsCommand words command = words ≡ words_of_command command
+
+-- they ask for none
+abbrev pub IsNoCommand : List (List ℕ) → Type 0
+IsNoCommand words = (command : Command) → ¬ IsCommand words command

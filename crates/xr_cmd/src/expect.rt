@@ -1,5 +1,5 @@
 //! The command `expect`: from the lines of a script to the text of the records that follow from them.
-ghost use Rattle.std.specs.Prelude.{◌≡◌, [], ◌++◌, Some, All, IfOk, IfErr, IfSome, OnOk, ◌≤◌};
+ghost use Rattle.std.specs.Prelude.{◌≡◌, [], ◌++◌, Some, All, IfOk, IfErr, IfSome, OnOk, ◌≤◌, ◌+◌};
 ghost use Rattle.std.specs.List.{flat_map};
 ghost use Rattle.std.specs.String.{string_bytes};
 ghost use Rattle.xr_base.specs.Cause.{Rose};
@@ -10,6 +10,7 @@ ghost use Rattle.xr_maps.specs.Steps.{Fits, maps_after};
 ghost use Rattle.xr_cmd.specs.Answer.{ExpectsOf, HasFailure, failure_of_read, failure_of_script};
 ghost use Rattle.xr_cmd.specs.Expect.{AppendsLists, Expects, IsTextOfMaps, files_text};
 ghost use Rattle.xr_cmd.specs.Script.{IsFaultOf};
+ghost use Rattle.xr_cmd.specs.Streams.{StaysWithin};
 ghost use Rattle.xr_cmd.specs.RecordText.{owners_text, shared_text, free_text};
 
 use crate::script::{MAX_BYTES, ScriptFault, parse_steps};
@@ -126,6 +127,7 @@ pub fn expect<I: Source>(alloc: Global, source: &mut I) -> Result<String, Failur
     ensures text { IfOk result (λ text. ExpectsOf (I.left source.old) (string_bytes text)) }
     ensures end { OnOk result (IfSome (I.left source.old) (λ _. I.left source.new ≡ Some [])) }
     ensures failure { IfErr result (HasFailure (I.left source.old) (Rose (I.faults source.old) (I.faults source.new))) }
+    ensures limit { StaysWithin (Rose (I.faults source.old) (I.faults source.new)) (MAX_BYTES + 1) (I.left source.old) (I.left source.new) }
     ensures count { I.faults source.old ≤ I.faults source.new }
 {
     let script = read_front(alloc, source, MAX_BYTES + 1)?;

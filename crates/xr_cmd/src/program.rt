@@ -1,11 +1,13 @@
 //! The whole program, over any source and sink.
-ghost use Rattle.std.specs.Prelude.{◌≡◌, ◌≤◌, [], Some, IfSome};
+ghost use Rattle.std.specs.Prelude.{◌≡◌, ◌+◌, ◌≤◌, [], Some, IfSome};
 ghost use Rattle.xr_base.specs.Cause.{Rose};
 ghost use Rattle.std.specs.Cow.{cow_str_bytes};
 ghost use Rattle.xr_cmd.specs.Answer.{code_of, Refuses, Says, Finishes, Ends};
 ghost use Rattle.xr_cmd.specs.declared.program.Status.TheVariants.{Done, Memory};
 ghost use Rattle.xr_cmd.specs.RecordText.{memory_text};
-ghost use Rattle.xr_cmd.specs.Words.{texts_of};
+ghost use Rattle.xr_cmd.specs.declared.script.TheConstants.{MAX_BYTES};
+ghost use Rattle.xr_cmd.specs.Streams.{StaysWithin};
+ghost use Rattle.xr_cmd.specs.Words.{IsNoCommand, texts_of};
 
 use crate::expect::{Failure, expect};
 use crate::streams::put_all;
@@ -82,7 +84,9 @@ fn refusal(alloc: Global, failure: Failure) -> Answer
 
 fn answer_to<I: Source>(alloc: Global, words: &[&str], script: &mut I) -> Answer
     ensures says { Says (texts_of words.now) (I.left script.old) (Rose (I.faults script.old) (I.faults script.new)) result.said (cow_str_bytes result.text) }
+    ensures unread { IsNoCommand (texts_of words.now) → script.new ≡ script.old }
     ensures end { result.said ≡ Done → IfSome (I.left script.old) (λ _. I.left script.new ≡ Some []) }
+    ensures limit { StaysWithin (Rose (I.faults script.old) (I.faults script.new)) (MAX_BYTES + 1) (I.left script.old) (I.left script.new) }
     ensures count { I.faults script.old ≤ I.faults script.new }
 {
     match command_of(words) {
@@ -126,7 +130,9 @@ pub fn xreflink<I: Source, O: Sink>(
 ) -> Ended
     ensures ends { Ends (texts_of words.now) (I.left script.old) (Rose (I.faults script.old) (I.faults script.new))
         (O.held out.old) (O.held out.new) (Rose (O.faults out.old) (O.faults out.new)) result.status }
+    ensures unread { IsNoCommand (texts_of words.now) → script.new ≡ script.old }
     ensures read_to_end { result.status ≡ 0 → IfSome (I.left script.old) (λ _. I.left script.new ≡ Some []) }
+    ensures limit { StaysWithin (Rose (I.faults script.old) (I.faults script.new)) (MAX_BYTES + 1) (I.left script.old) (I.left script.new) }
     ensures source_count { I.faults script.old ≤ I.faults script.new }
     ensures sink_count { O.faults out.old ≤ O.faults out.new }
 {

@@ -1,7 +1,6 @@
 //! The words of the command line: which lists of words are commands.
 ghost use Rattle.std.specs.Prelude.{MatchOption};
-ghost use Rattle.xr_cmd.specs.declared.words.Command.{Command};
-ghost use Rattle.xr_cmd.specs.Words.{IsCommand, texts_of};
+ghost use Rattle.xr_cmd.specs.Words.{IsCommand, IsNoCommand, texts_of};
 
 /// What a command line asks for.
 #[derive(Clone, Copy, Debug, PartialEq, Eq)]
@@ -12,9 +11,7 @@ pub enum Command {
 
 /// The command that the words ask for, if they are those of one. The program's name isn't among them.
 pub fn command_of(words: &[&str]) -> Option<Command>
-    ensures { MatchOption result
-        ((command : Command) → ¬ IsCommand (texts_of words.now) command)
-        (IsCommand (texts_of words.now)) }
+    ensures { MatchOption result (IsNoCommand (texts_of words.now)) (IsCommand (texts_of words.now)) }
 {
     match words {
         ["expect"] => Some(Command::Expect),
