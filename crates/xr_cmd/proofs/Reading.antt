@@ -1,5 +1,5 @@
 -- Reading bytes in many calls, each of which takes some of those that are left.
-use Rattle.std.proofs.Common.{ℕ, ◌+◌, ◌≤◌, Option, None, Some, List, [], ◌++◌, length, inr, sym, subst, refl, ap, ◌∙◌, arith, append_assoc, length-append}
+use Rattle.std.proofs.Common.{ℕ, ◌+◌, ◌≤◌, Option, None, Some, List, ◌++◌, length, inr, sym, subst, ap, ◌∙◌, arith, append_assoc, length-append}
 use Rattle.xr_disk.specs.Stream.{Took}
 use Rattle.xr_cmd.specs.Streams.{StaysWithin}
 
@@ -9,24 +9,12 @@ pub record HasRead {S : Type 0} (left : S → Option (List ℕ)) (faults : S →
   pub bound : length bytes ≤ most
   pub kept : faults old ≤ faults new
 
-took_none : (left : Option (List ℕ)) → Took left left []
-took_none None = tt
-took_none (Some all) = (all, refl, refl)
-
 took_more : (old mid new : Option (List ℕ)) (bytes more : List ℕ) → Took old mid bytes → Took mid new more → Took old new (bytes ++ more)
 took_more None mid new bytes more first second = tt
 took_more (Some all) mid new bytes more first second =
     let P : Option (List ℕ) → Type 0 = λ left. Took left new more in
     let then = subst P first.1 second in
     (then.0, then.1, first.2 ∙ ap (λ rest. bytes ++ rest) then.2 ∙ sym (append_assoc bytes more then.0))
-
--- nothing was taken
-pub stays_at : (Failed : Type 0) (most : ℕ) (left : Option (List ℕ)) → StaysWithin Failed most left left
-stays_at Failed most left = inr ([], omega arith, took_none left)
-
--- these bytes were taken
-pub stays_within : (Failed : Type 0) (most : ℕ) (old new : Option (List ℕ)) (bytes : List ℕ) → length bytes ≤ most → Took old new bytes → StaysWithin Failed most old new
-stays_within Failed most old new bytes few took = inr (bytes, few, took)
 
 -- some bytes were taken, and then some more
 pub stays_within_more : (Failed : Type 0) (most : ℕ) (old mid new : Option (List ℕ)) (bytes more : List ℕ) → length bytes + length more ≤ most → Took old mid bytes → Took mid new more
