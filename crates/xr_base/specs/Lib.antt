@@ -1,2 +1,6 @@
 pub mod Address
 pub mod Cause
+pub mod Checksum
+pub mod ChecksumLaws
+pub mod Image
+pub mod ImageLaws

@@ -4,23 +4,22 @@ use Rattle.std.specs.Prelude.{IfSome}
 use Rattle.std.proofs.lemmas.List.{length-take, take_all, nil_from_length, length-append}
 use Rattle.std.proofs.lemmas.Bool.{cases_lt}
 use Rattle.xr_disk.specs.Stream.{Took}
-use Rattle.xr_cmd.specs.declared.expect.Failure.{Failure}
-use Rattle.xr_cmd.specs.declared.expect.Failure.TheVariants.{BadLine, SourceFailed, NoMemory}
+use Rattle.xr_disk.specs.Disk.{DiskView}
+use Rattle.xr_cmd.specs.declared.failure.Failure.{Failure}
+use Rattle.xr_cmd.specs.declared.failure.Failure.TheVariants.{BadLine, SourceFailed, DiskFailed, ForeignBlock, NoMemory}
 use Rattle.xr_cmd.specs.declared.program.Status.{Status}
-use Rattle.xr_cmd.specs.declared.program.Status.TheVariants.{Done, Words, Line, Source, Sink, Memory}
+use Rattle.xr_cmd.specs.declared.program.Status.TheVariants.{Done, Words, Line, Source, Sink, Disk, Foreign, Memory}
 use Rattle.xr_cmd.specs.declared.script.ScriptFault.{ScriptFault}
 use Rattle.xr_cmd.specs.declared.script.ScriptFault.TheVariants as script
 use Rattle.xr_cmd.specs.declared.streams.ReadFault.{ReadFault}
 use Rattle.xr_cmd.specs.declared.streams.ReadFault.TheVariants as read
 use Rattle.xr_cmd.specs.declared.script.TheConstants.{MAX_BYTES}
-use Rattle.xr_cmd.specs.declared.words.Command.{Command}
-use Rattle.xr_cmd.specs.declared.words.Command.TheVariants.{Expect}
-use Rattle.xr_cmd.specs.Answer.{WasLeft, ExpectsOf, HasBadLine, HasFailure, failure_of_read, failure_of_script, Refuses, Says, code_of, Finishes}
+use Rattle.xr_cmd.specs.Answer.{ExpectsOf, IsRefused, Refuses, Says, code_of, Finishes}
+use Rattle.xr_cmd.specs.Failures.{WasLeft, HasBadLine, ExpectFails, failure_of_read, failure_of_script}
 use Rattle.xr_cmd.specs.Expect.{Expects}
 use Rattle.xr_cmd.specs.Script.{IsFirstBadLine, IsFaultOf}
 use Rattle.xr_cmd.specs.ScriptLaws.{IsFirstBadLine-from_front, HasNoBadLine-size}
 use Rattle.xr_cmd.specs.Streams.{IsFront}
-use Rattle.xr_cmd.specs.Words.{IsCommand}
 
 -- a front that is shorter than asked for is all
 whole_front : (most : ℕ) (all bytes : List ℕ) → bytes ≡ take (most + 1) all → length bytes ≤ most → all ≡ bytes
@@ -65,26 +64,40 @@ has_bad_line (Some all) bytes number front first = record {
 }
 
 -- a fault of reading has its cause, and so has one of the script that was read
-pub read_failure : (left : Option (List ℕ)) (Failed : Type 0) (fault : ReadFault) → (fault ≡ read.Source → Failed) → HasFailure left Failed (failure_of_read fault)
+pub read_failure : (left : Option (List ℕ)) (Failed : Type 0) (fault : ReadFault) → (fault ≡ read.Source → Failed) → ExpectFails left Failed (failure_of_read fault)
 read_failure left Failed read.Source failed = failed refl
 read_failure left Failed read.NoMemory failed = tt
 
 pub script_failure : (left : Option (List ℕ)) (Failed : Type 0) (bytes : List ℕ) (fault : ScriptFault) → IsFront left (MAX_BYTES + 1) bytes → IsFaultOf bytes fault
-    → HasFailure left Failed (failure_of_script fault)
+    → ExpectFails left Failed (failure_of_script fault)
 script_failure left Failed bytes (script.Line number) front first = has_bad_line left bytes number front first
 script_failure left Failed bytes script.NoMemory front first = tt
 
 -- the answer to a failure is an answer to the words
-pub says_refusal : (words : List (List ℕ)) (left : Option (List ℕ)) (Failed : Type 0) (failure : Failure) (said : Status) (text : List ℕ)
-    → IsCommand words Expect → HasFailure left Failed failure → Refuses failure said text → Says words left Failed said text
-says_refusal words left Failed (BadLine number) Line text is has refuses = (is, (number, has, refuses))
-says_refusal words left Failed (BadLine number) Memory text is has refuses = (is, refuses)
-says_refusal words left Failed SourceFailed Source text is has refuses = (is, has, refuses)
-says_refusal words left Failed NoMemory Memory text is has refuses = (is, refuses)
-says_refusal words left Failed failure said text is has refuses = absurd refuses
+refuses_not_done : (failure : Failure) (text : List ℕ) → ¬ Refuses failure Done text
+refuses_not_done (BadLine number) text refuses = refuses
+refuses_not_done SourceFailed text refuses = refuses
+refuses_not_done DiskFailed text refuses = refuses
+refuses_not_done (ForeignBlock block) text refuses = refuses
+refuses_not_done NoMemory text refuses = refuses
 
-pub is_expect : (words : List (List ℕ)) (command : Command) → IsCommand words command → IsCommand words Expect
-is_expect words Expect is = is
+refuses_not_words : (failure : Failure) (text : List ℕ) → ¬ Refuses failure Words text
+refuses_not_words (BadLine number) text refuses = refuses
+refuses_not_words SourceFailed text refuses = refuses
+refuses_not_words DiskFailed text refuses = refuses
+refuses_not_words (ForeignBlock block) text refuses = refuses
+refuses_not_words NoMemory text refuses = refuses
+
+pub says_refused : (words : List (List ℕ)) (left : Option (List ℕ)) (Failed : Type 0) (old new : DiskView) (said : Status) (text : List ℕ)
+    → IsRefused words left Failed old new said text → Says words left Failed old new said text
+says_refused words left Failed old new Done text refused = absurd (refuses_not_done refused.failure text refused.refuses)
+says_refused words left Failed old new Words text refused = absurd (refuses_not_words refused.failure text refused.refuses)
+says_refused words left Failed old new Line text refused = refused
+says_refused words left Failed old new Source text refused = refused
+says_refused words left Failed old new Sink text refused = refused
+says_refused words left Failed old new Disk text refused = refused
+says_refused words left Failed old new Foreign text refused = refused
+says_refused words left Failed old new Memory text refused = refused
 
 done_is_zero : (said : Status) → code_of said ≡ 0 → said ≡ Done
 done_is_zero Done e = refl
@@ -92,6 +105,8 @@ done_is_zero Words e = absurd (omega arith)
 done_is_zero Line e = absurd (omega arith)
 done_is_zero Source e = absurd (omega arith)
 done_is_zero Sink e = absurd (omega arith)
+done_is_zero Disk e = absurd (omega arith)
+done_is_zero Foreign e = absurd (omega arith)
 done_is_zero Memory e = absurd (omega arith)
 
 -- status 0 is that of a text of records alone

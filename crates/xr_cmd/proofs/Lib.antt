@@ -1,7 +1,10 @@
-pub mod NumberWords
+pub mod Answering
+pub mod FreshLemmas
 pub mod Lines
-pub mod StepLines
+pub mod MakingLemmas
+pub mod NumberWords
+pub mod PrintedLists
 pub mod Putting
 pub mod Reading
-pub mod PrintedLists
-pub mod Answering
+pub mod StepLines
+pub mod WordLemmas

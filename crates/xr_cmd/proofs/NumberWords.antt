@@ -45,7 +45,7 @@ number_from_parse {E} word (Ok n) parses first =
     record { small = omega (arith, read.0.2, read.1); printed = sym (ap decimal read.1 ∙ printed) }
 
 -- a text has one first space
-first_space : (a b x y : List ℕ) → ((i : ℕ) → i < length a → get_or a i 0 ≢ 32) → ((i : ℕ) → i < length b → get_or b i 0 ≢ 32) → a ++ (32 ∷ x) ≡ b ++ (32 ∷ y) → (a ≡ b) × (x ≡ y)
+pub first_space : (a b x y : List ℕ) → ((i : ℕ) → i < length a → get_or a i 0 ≢ 32) → ((i : ℕ) → i < length b → get_or b i 0 ≢ 32) → a ++ (32 ∷ x) ≡ b ++ (32 ∷ y) → (a ≡ b) × (x ≡ y)
 first_space [] [] x y none_a none_b same = (refl, cc)
 first_space [] (d ∷ b) x y none_a none_b same = absurd (none_b 0 (omega arith) (cc))
 first_space (c ∷ a) [] x y none_a none_b same = absurd (none_a 0 (omega arith) (cc))
@@ -62,30 +62,37 @@ number_same m n x y small_m small_n same =
     (decimal_injective m n (omega arith) (omega arith) parts.0, parts.1)
 
 -- so are the numbers of a text, where there are so many
-numbers_same : (m n : ℕ) (ms ns : List ℕ) → AreSmall (m ∷ ms) → AreSmall (n ∷ ns) → length ms ≡ length ns → words_of (decimal m) (map decimal ms) ≡ words_of (decimal n) (map decimal ns) → (m ≡ n) × (ms ≡ ns)
-numbers_same m n [] [] small_m small_n many same =
-    (decimal_injective m n (omega (arith, small_m.0)) (omega (arith, small_n.0)) (sym (append-nil (decimal m)) ∙ (same ∙ append-nil (decimal n))), refl)
-numbers_same m n [] (n' ∷ ns) small_m small_n many same = absurd (omega arith)
-numbers_same m n (m' ∷ ms) [] small_m small_n many same = absurd (omega arith)
-numbers_same m n (m' ∷ ms) (n' ∷ ns) small_m small_n many same =
-    let front = number_same m n _ _ small_m.0 small_n.0 same in
-    let rest = numbers_same m' n' ms ns small_m.1 small_n.1 (omega arith) front.1 in
-    (front.0, cc (rest.0, rest.1))
+numbers_same : (ms ns : List ℕ) → AreSmall ms → AreSmall ns → length ms ≡ length ns → spaced (map decimal ms) ≡ spaced (map decimal ns) → ms ≡ ns
+numbers_same [] [] small_m small_n many same = refl
+numbers_same [] (n ∷ ns) small_m small_n many same = absurd (omega arith)
+numbers_same (m ∷ ms) [] small_m small_n many same = absurd (omega arith)
+numbers_same (m ∷ []) (n ∷ []) small_m small_n many same =
+    let texts : decimal m ++ [] ≡ decimal n ++ [] = cc in
+    cc (decimal_injective m n (omega (arith, small_m.0)) (omega (arith, small_n.0)) (sym (append-nil (decimal m)) ∙ (texts ∙ append-nil (decimal n))))
+numbers_same (m ∷ []) (n ∷ n' ∷ ns) small_m small_n many same = absurd (omega arith)
+numbers_same (m ∷ m' ∷ ms) (n ∷ []) small_m small_n many same = absurd (omega arith)
+numbers_same (m ∷ m' ∷ ms) (n ∷ n' ∷ ns) small_m small_n many same =
+    let texts : decimal m ++ spaced (map decimal (m' ∷ ms)) ≡ decimal n ++ spaced (map decimal (n' ∷ ns)) = cc in
+    let front = number_same m n _ _ small_m.0 small_n.0 texts in
+    cc (front.0, numbers_same (m' ∷ ms) (n' ∷ ns) small_m.1 small_n.1 (omega arith) (ap (λ rest. 32 ∷ rest) front.1))
 
-pub AreNumbers-same : (text : List ℕ) (m n : ℕ) (ms ns : List ℕ) → length ms ≡ length ns → AreNumbers text m ms → AreNumbers text n ns → (m ≡ n) × (ms ≡ ns)
-AreNumbers-same text m n ms ns many first second = numbers_same m n ms ns first.small second.small many (sym first.printed ∙ second.printed)
+pub AreNumbers-same : (text : List ℕ) (ms ns : List ℕ) → length ms ≡ length ns → AreNumbers text ms → AreNumbers text ns → ms ≡ ns
+AreNumbers-same text ms ns many first second = numbers_same ms ns first.small second.small many (sym first.printed ∙ second.printed)
 
 -- the first of some numbers, and those after it
-pub AreNumbers-front : (text : List ℕ) (m k : ℕ) (others : List ℕ) → AreNumbers text m (k ∷ others) → IsNumberBefore text m (words_of (decimal k) (map decimal others))
-AreNumbers-front text m k others are = record { small = are.small.0; printed = are.printed }
+pub AreNumbers-front : (text : List ℕ) (m k : ℕ) (others : List ℕ) → AreNumbers text (m ∷ k ∷ others) → IsNumberBefore text m (words_of (decimal k) (map decimal others))
+AreNumbers-front text m k others are = record { small = are.small.0; printed = let printed = are.printed in cc }
 
-pub AreNumbers-rest : (text : List ℕ) (n : ℕ) (rest : List ℕ) (m k : ℕ) (others : List ℕ) → IsNumberBefore text n rest → AreNumbers text m (k ∷ others) → AreNumbers rest k others
+pub AreNumbers-rest : (text : List ℕ) (n : ℕ) (rest : List ℕ) (m k : ℕ) (others : List ℕ) → IsNumberBefore text n rest → AreNumbers text (m ∷ k ∷ others) → AreNumbers rest (k ∷ others)
 AreNumbers-rest text n rest m k others front are =
-    let parts = number_same n m rest (words_of (decimal k) (map decimal others)) front.small are.small.0 (sym front.printed ∙ are.printed) in
-    record { small = are.small.1; printed = parts.1 }
+    let whole = AreNumbers-front text m k others are in
+    let parts = number_same n m rest (words_of (decimal k) (map decimal others)) front.small whole.small (sym front.printed ∙ whole.printed) in
+    record { small = are.small.1; printed = ap (λ words. 32 ∷ words) parts.1 }
 
-pub AreNumbers-last : (text : List ℕ) (n : ℕ) → AreNumbers text n [] → IsNumber text n
-AreNumbers-last text n are = record { small = are.small.0; printed = are.printed ∙ append-nil (decimal n) }
+pub AreNumbers-last : (text : List ℕ) (n : ℕ) → AreNumbers text (n ∷ []) → IsNumber text n
+AreNumbers-last text n are =
+    let texts : text ≡ decimal n ++ [] = let printed = are.printed in cc in
+    record { small = are.small.0; printed = texts ∙ append-nil (decimal n) }
 
 -- printed numbers are ASCII
 pub IsAscii-spaced : (numbers : List ℕ) → AreSmall numbers → IsAscii (spaced (map decimal numbers))

@@ -1,17 +1,19 @@
 -- What the program answers: its status, with the text that goes with it.
-use Rattle.std.specs.Prelude.{◌≡◌, ◌⊎◌, ℕ, List, Option, IfSome}
-use Rattle.xr_cmd.specs.declared.expect.Failure.{Failure}
-use Rattle.xr_cmd.specs.declared.expect.Failure.TheVariants.{BadLine, SourceFailed, NoMemory}
+use Rattle.std.specs.Prelude.{◌≡◌, ◌⊎◌, ℕ, List, Option}
+use Rattle.xr_disk.specs.Disk.{DiskView, IsAtRest}
+use Rattle.xr_headers.specs.FreshImage.{fresh_image}
+use Rattle.xr_maps.specs.FileMaps.{no_maps}
+use Rattle.xr_cmd.specs.declared.failure.Failure.{Failure}
+use Rattle.xr_cmd.specs.declared.failure.Failure.TheVariants.{BadLine, SourceFailed, DiskFailed, ForeignBlock, NoMemory}
 use Rattle.xr_cmd.specs.declared.program.Status.{Status}
-use Rattle.xr_cmd.specs.declared.program.Status.TheVariants.{Done, Words, Line, Source, Sink, Memory}
-use Rattle.xr_cmd.specs.declared.script.ScriptFault.{ScriptFault}
-use Rattle.xr_cmd.specs.declared.script.ScriptFault.TheVariants as script
-use Rattle.xr_cmd.specs.declared.streams.ReadFault.{ReadFault}
-use Rattle.xr_cmd.specs.declared.streams.ReadFault.TheVariants as read
-use Rattle.xr_cmd.specs.declared.words.Command.TheVariants.{Expect}
-use Rattle.xr_cmd.specs.Expect.{Expects}
-use Rattle.xr_cmd.specs.RecordText.{words_text, bad_line_text, source_text, memory_text}
-use Rattle.xr_cmd.specs.Script.{IsFirstBadLine}
+use Rattle.xr_cmd.specs.declared.program.Status.TheVariants.{Done, Words, Line, Source, Sink, Disk, Foreign, Memory}
+use Rattle.xr_cmd.specs.declared.program.TheConstants.{FIRST_CYCLE}
+use Rattle.xr_cmd.specs.declared.words.Command.{Command}
+use Rattle.xr_cmd.specs.declared.words.Command.TheVariants.{Expect, Mkfs, Show}
+use Rattle.xr_cmd.specs.Expect.{Expects, IsTextOfPart}
+use Rattle.xr_cmd.specs.Failures.{WasLeft, HasFailure}
+use Rattle.xr_cmd.specs.Fresh.{IsFreshImage, WasSeen}
+use Rattle.xr_cmd.specs.RecordText.{words_text, bad_line_text, source_text, disk_text, foreign_text, memory_text, made_text}
 use Rattle.xr_cmd.specs.Streams.{PutsAll, PutsSomeFront}
 use Rattle.xr_cmd.specs.Words.{IsCommand, IsNoCommand}
 
@@ -22,11 +24,9 @@ code_of Words = 2
 code_of Line = 3
 code_of Source = 4
 code_of Sink = 5
+code_of Disk = 6
+code_of Foreign = 7
 code_of Memory = 8
-
--- the bytes are all that was left, where the source tells
-abbrev pub WasLeft : Option (List ℕ) → List ℕ → Type 0
-WasLeft left script = IfSome left (λ all. all ≡ script)
 
 -- the script was left, and its records have this text
 pub record ExpectsOf (left : Option (List ℕ)) (text : List ℕ) : Type 0 where
@@ -34,43 +34,37 @@ pub record ExpectsOf (left : Option (List ℕ)) (text : List ℕ) : Type 0 where
   pub was_left : WasLeft left script
   pub expects : Expects script text
 
--- the script was left, and its first bad line has this number
-pub record HasBadLine (left : Option (List ℕ)) (number : ℕ) : Type 0 where
-  pub script : List ℕ
-  pub was_left : WasLeft left script
-  pub first : IsFirstBadLine script number
+-- what a command that ended well did, and its text
+abbrev pub DoneWith : Option (List ℕ) → DiskView → DiskView → Command → List ℕ → Type 0
+DoneWith left old new Expect text = ExpectsOf left text
+DoneWith left old new (Mkfs uuid) text = WasSeen old.seen (λ _. IsAtRest (fresh_image uuid FIRST_CYCLE) new) × (text ≡ made_text uuid)
+DoneWith left old new (Show part) text = WasSeen old.seen IsFreshImage × IsTextOfPart part no_maps text
 
--- why there is no text; want of memory needs no cause
-abbrev pub HasFailure : Option (List ℕ) → Type 0 → Failure → Type 0
-HasFailure left Failed (BadLine number) = HasBadLine left number
-HasFailure left Failed SourceFailed = Failed
-HasFailure left Failed NoMemory = Unit {0}
-
--- the status and the text for these words and what was left in the source, where Failed says that the source did
-abbrev pub Says : List (List ℕ) → Option (List ℕ) → Type 0 → Status → List ℕ → Type 0
-Says words left Failed Done text = IsCommand words Expect × ExpectsOf left text
-Says words left Failed Words text = IsNoCommand words × (text ≡ words_text)
-Says words left Failed Line text = IsCommand words Expect × ((number : ℕ) × HasBadLine left number × (text ≡ bad_line_text number))
-Says words left Failed Source text = IsCommand words Expect × Failed × (text ≡ source_text)
-Says words left Failed Sink text = ⊥
-Says words left Failed Memory text = IsCommand words Expect × (text ≡ memory_text)
-
--- a fault of reading or of parsing, as the reason why there is no text
-abbrev pub failure_of_read : ReadFault → Failure
-failure_of_read read.Source = SourceFailed
-failure_of_read read.NoMemory = NoMemory
-
-abbrev pub failure_of_script : ScriptFault → Failure
-failure_of_script (script.Line number) = BadLine number
-failure_of_script script.NoMemory = NoMemory
-
--- the answer to a failure: its own line, or the one for want of memory, which a bad line's own line may meet too
+-- the answer to a failure: its own line, or the one for want of memory, which a line with a number may meet too
 abbrev pub Refuses : Failure → Status → List ℕ → Type 0
 Refuses (BadLine number) Line text = text ≡ bad_line_text number
 Refuses (BadLine number) Memory text = text ≡ memory_text
 Refuses SourceFailed Source text = text ≡ source_text
+Refuses DiskFailed Disk text = text ≡ disk_text
+Refuses (ForeignBlock block) Foreign text = text ≡ foreign_text block 12
+Refuses (ForeignBlock block) Memory text = text ≡ memory_text
 Refuses NoMemory Memory text = text ≡ memory_text
 Refuses _ _ text = ⊥
+
+-- a command had a failure, which this answers
+pub record IsRefused (words : List (List ℕ)) (left : Option (List ℕ)) (AtSource : Type 0) (old new : DiskView) (said : Status) (text : List ℕ) : Type 0 where
+  pub command : Command
+  pub failure : Failure
+  pub asked : IsCommand words command
+  pub has : HasFailure left AtSource old new command failure
+  pub refuses : Refuses failure said text
+
+-- The status and the text for these words, what was left in the source, and the disk before and after, where AtSource
+-- says that the source failed.
+abbrev pub Says : List (List ℕ) → Option (List ℕ) → Type 0 → DiskView → DiskView → Status → List ℕ → Type 0
+Says words left AtSource old new Done text = (command : Command) × IsCommand words command × DoneWith left old new command text
+Says words left AtSource old new Words text = IsNoCommand words × (text ≡ words_text)
+Says words left AtSource old new said text = IsRefused words left AtSource old new said text
 
 -- the text was written whole and the status is its own, or the sink failed before its end
 abbrev pub Finishes : Option (List ℕ) → Option (List ℕ) → Type 0 → Status → List ℕ → ℕ → Type 0
@@ -78,8 +72,8 @@ Finishes old new Failed said text status =
     ((status ≡ code_of said) × PutsAll old new text) ⊎ ((status ≡ code_of Sink) × Failed × PutsSomeFront old new text)
 
 -- how the program ends: there is one thing to say, and it was written or the sink failed
-pub record Ends (words : List (List ℕ)) (left : Option (List ℕ)) (AtSource : Type 0) (held held' : Option (List ℕ)) (AtSink : Type 0) (status : ℕ) : Type 0 where
+pub record Ends (words : List (List ℕ)) (left : Option (List ℕ)) (AtSource : Type 0) (disk disk' : DiskView) (held held' : Option (List ℕ)) (AtSink : Type 0) (status : ℕ) : Type 0 where
   pub said : Status
   pub text : List ℕ
-  pub says : Says words left AtSource said text
+  pub says : Says words left AtSource disk disk' said text
   pub finishes : Finishes held held' AtSink said text status

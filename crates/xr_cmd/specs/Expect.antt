@@ -10,6 +10,8 @@ use Rattle.xr_maps.specs.declared.steps.Step.{Step}
 use Rattle.xr_maps.specs.FileMaps.{FileMaps, no_maps}
 use Rattle.xr_maps.specs.Steps.{maps_after}
 use Rattle.xr_maps.specs.Records.{AreExtents, AreReverseRecords, AreReferenceRecords, AreFreeRecords}
+use Rattle.xr_cmd.specs.declared.words.Part.{Part}
+use Rattle.xr_cmd.specs.declared.words.Part.TheVariants.{Files, Free}
 use Rattle.xr_cmd.specs.RecordText.{extents_text, owners_text, shared_text, free_text}
 use Rattle.xr_cmd.specs.Script.{HasNoBadLine, AreStepsOf}
 
@@ -34,6 +36,11 @@ pub record IsTextOfMaps (maps : FileMaps) (text : List ℕ) : Type 0 where
   pub are_shared : AreListsOf (AreReferenceRecords maps) GROUPS shared
   pub are_free : AreListsOf (AreFreeRecords maps) GROUPS free
   pub printed : text ≡ files_text 0 extents ++ flat_map owners_text owners ++ flat_map shared_text shared ++ flat_map free_text free
+
+-- the records of one part of an image
+abbrev pub IsTextOfPart : Part → FileMaps → List ℕ → Type 0
+IsTextOfPart Files maps text = (lists : List (List Extent)) × AreListsOf (AreExtents maps) FILES lists × (text ≡ files_text 0 lists)
+IsTextOfPart Free maps text = (lists : List (List Run)) × AreListsOf (AreFreeRecords maps) GROUPS lists × (text ≡ flat_map free_text lists)
 
 -- the script has no bad line, and the text is that of the maps after its steps
 pub record Expects (script text : List ℕ) : Type 0 where

@@ -1,5 +1,8 @@
 pub mod Answer
 pub mod Expect
+pub mod Failures
+pub mod Fresh
+pub mod Making
 pub mod RecordText
 pub mod Script
 pub mod ScriptLaws

@@ -2,6 +2,7 @@
 use Rattle.std.specs.Prelude.{ℕ, ◌-◌, List, [], ◌∷◌, codes}
 use Rattle.std.specs.Fmt.{decimal}
 use Rattle.std.specs.List.{flat_map}
+use Rattle.uuid.specs.Text.{hyphenated_text, lower}
 use Rattle.xr_base.specs.declared.address.Run.{Run}
 use Rattle.xr_base.specs.declared.geometry.TheConstants.{FIRST_INODE}
 use Rattle.xr_maps.specs.declared.records.Extent.{Extent}
@@ -49,6 +50,18 @@ bad_line_text n = line_of (codes "line") (decimal n ∷ [])
 -- the source failed
 abbrev pub source_text : List ℕ
 source_text = line_of (codes "source") []
+
+-- the disk failed
+abbrev pub disk_text : List ℕ
+disk_text = line_of (codes "disk") []
+
+-- a block isn't one of the program's, for a reason with this number
+abbrev pub foreign_text : ℕ → ℕ → List ℕ
+foreign_text block why = line_of (codes "foreign") (decimal block ∷ decimal why ∷ [])
+
+-- an image was made with this identifier
+abbrev pub made_text : List ℕ → List ℕ
+made_text uuid = line_of (codes "made") (hyphenated_text lower uuid ∷ [])
 
 -- want of memory
 abbrev pub memory_text : List ℕ

@@ -1,31 +1,39 @@
 -- What a script of mapping steps says, told by how its lines are printed.
-use Rattle.std.specs.Prelude.{◌≡◌, ℕ, ◌+◌, ◌-◌, ◌<◌, ◌≤◌, ◌==◌, if◌then◌else◌, ◌⊎◌, List, [], ◌∷◌, length, take, sum_by, codes, slice_index_or}
+use Rattle.std.specs.Prelude.{◌≡◌, ℕ, ◌+◌, ◌-◌, ◌<◌, ◌≤◌, ◌==◌, if◌then◌else◌, ◌⊎◌, List, [], ◌∷◌, length, map, take, sum_by, codes, slice_index_or}
 use Rattle.std.specs.List.{onto_first}
 use Rattle.std.specs.Fmt.{decimal}
 use Rattle.xr_maps.specs.declared.steps.Step.{Step}
-use Rattle.xr_maps.specs.declared.steps.Step.TheVariants.{Remap, Punch}
+use Rattle.xr_maps.specs.declared.steps.Step.TheVariants.{Remap, Punch, Exchange}
 use Rattle.xr_maps.specs.Steps.{Fits}
 use Rattle.xr_cmd.specs.declared.script.ScriptFault.{ScriptFault}
 use Rattle.xr_cmd.specs.declared.script.ScriptFault.TheVariants.{Line, NoMemory}
 use Rattle.xr_cmd.specs.declared.script.TheConstants.{MAX_LINES, MAX_BYTES}
 use Rattle.xr_cmd.specs.Text.{words_of, AreNumbers}
 
--- the kinds of steps that lines of a script stand for
-abbrev pub HasLine : Step → Type 0
-HasLine (Remap file off len at) = Unit {0}
-HasLine (Punch file off len) = ⊥
+-- the word that begins the line of a step, and the numbers after it
+abbrev pub kind_of : Step → List ℕ
+kind_of (Remap file off len at) = codes "remap"
+kind_of (Punch file off len) = codes "punch"
+kind_of (Exchange file off other other_off len) = codes "exchange"
+
+abbrev pub numbers_of : Step → List ℕ
+numbers_of (Remap file off len at) = file.0 ∷ off ∷ len ∷ at.0 ∷ []
+numbers_of (Punch file off len) = file.0 ∷ off ∷ len ∷ []
+numbers_of (Exchange file off other other_off len) = file.0 ∷ off ∷ other.0 ∷ other_off ∷ len ∷ []
 
 -- the line of a step, without its newline
 abbrev pub text_of_step : Step → List ℕ
-text_of_step (Remap file off len at) =
-    words_of (codes "remap") (decimal file.0 ∷ decimal off ∷ decimal len ∷ decimal at.0 ∷ [])
-text_of_step (Punch file off len) = words_of (codes "punch") (decimal file.0 ∷ decimal off ∷ decimal len ∷ [])
+text_of_step step = words_of (kind_of step) (map decimal (numbers_of step))
 
 -- the line stands for the step
 pub record LineGives (line : List ℕ) (step : Step) : Type 0 where
-  pub kind : HasLine step
   pub fits : Fits step
   pub text : line ≡ text_of_step step
+
+-- the words after a line's first word, as a step of the kind that the first word says
+pub record IsStepAfter (kind words : List ℕ) (step : Step) : Type 0 where
+  pub same_kind : kind_of step ≡ kind
+  pub numbers : AreNumbers words (numbers_of step)
 
 -- an empty line, or a comment, which begins with `#`
 abbrev pub IsPassedOver : List ℕ → Type 0
@@ -87,8 +95,3 @@ AreStepsOf bytes = AreStepsOfLines (lines_of bytes)
 abbrev pub IsFaultOf : List ℕ → ScriptFault → Type 0
 IsFaultOf bytes (Line number) = IsFirstBadLine bytes number
 IsFaultOf bytes NoMemory = Unit {0}
-
--- the words after `remap`, as the step
-abbrev pub IsRemap : List ℕ → Step → Type 0
-IsRemap words (Remap file off len at) = AreNumbers words file.0 (off ∷ len ∷ at.0 ∷ [])
-IsRemap words (Punch file off len) = ⊥

@@ -30,7 +30,7 @@ abbrev pub AreSmall : List ℕ → Type 0
 AreSmall [] = Unit {0}
 AreSmall (n ∷ ns) = (n < 2 ^ 32) × AreSmall ns
 
--- a text of such numbers with one space between them
-pub record AreNumbers (text : List ℕ) (n : ℕ) (others : List ℕ) : Type 0 where
-  pub small : AreSmall (n ∷ others)
-  pub printed : text ≡ words_of (decimal n) (map decimal others)
+-- a text of such numbers, one or more, with one space between them
+pub record AreNumbers (text : List ℕ) (numbers : List ℕ) : Type 0 where
+  pub small : AreSmall numbers
+  pub printed : 32 ∷ text ≡ spaced (map decimal numbers)

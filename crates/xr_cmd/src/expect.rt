@@ -7,50 +7,23 @@ ghost use Rattle.xr_base.specs.declared.geometry.TheConstants.{FILES, GROUPS};
 ghost use Rattle.xr_maps.specs.FileMaps.{no_maps};
 ghost use Rattle.xr_maps.specs.Records.{AreExtents, AreReverseRecords, AreReferenceRecords, AreFreeRecords};
 ghost use Rattle.xr_maps.specs.Steps.{Fits, maps_after};
-ghost use Rattle.xr_cmd.specs.Answer.{ExpectsOf, HasFailure, failure_of_read, failure_of_script};
-ghost use Rattle.xr_cmd.specs.Expect.{AppendsLists, Expects, IsTextOfMaps, files_text};
+ghost use Rattle.xr_cmd.specs.Answer.{ExpectsOf};
+ghost use Rattle.xr_cmd.specs.Failures.{ExpectFails};
+ghost use Rattle.xr_cmd.specs.Expect.{AppendsLists, Expects, IsTextOfMaps, IsTextOfPart, files_text};
 ghost use Rattle.xr_cmd.specs.Script.{IsFaultOf};
 ghost use Rattle.xr_cmd.specs.Streams.{StaysWithin};
 ghost use Rattle.xr_cmd.specs.RecordText.{owners_text, shared_text, free_text};
 
+use crate::failure::Failure;
 use crate::script::{MAX_BYTES, ScriptFault, parse_steps};
-use crate::streams::{ReadFault, read_front};
+use crate::streams::read_front;
 use crate::text::{push_extents, push_free, push_owners, push_shared};
+use crate::words::Part;
 use std::alloc::{AllocError, Global};
 use xr_base::geometry::{FILES, GROUPS};
 use xr_base::{FileNo, GroupNo};
 use xr_disk::Source;
 use xr_maps::{Maps, Step};
-
-/// Why there is no text.
-#[derive(Clone, Copy, Debug, PartialEq, Eq)]
-pub enum Failure {
-    BadLine(u32),
-    SourceFailed,
-    NoMemory,
-}
-
-impl From<ReadFault> for Failure {
-    ghost from_gives = { λ fault failure. failure ≡ failure_of_read fault };
-
-    fn from(fault: ReadFault) -> Failure {
-        match fault {
-            ReadFault::Source => Failure::SourceFailed,
-            ReadFault::NoMemory => Failure::NoMemory,
-        }
-    }
-}
-
-impl From<ScriptFault> for Failure {
-    ghost from_gives = { λ fault failure. failure ≡ failure_of_script fault };
-
-    fn from(fault: ScriptFault) -> Failure {
-        match fault {
-            ScriptFault::Line { number } => Failure::BadLine(number),
-            ScriptFault::NoMemory => Failure::NoMemory,
-        }
-    }
-}
 
 fn push_all_extents(alloc: Global, text: &mut String, maps: &Maps) -> Result<(), AllocError>
     ensures { OnOk result (AppendsLists (AreExtents maps.now) (files_text 0) FILES (string_bytes text.old) (string_bytes text.new)) }
@@ -100,6 +73,18 @@ fn text_of(alloc: Global, maps: &Maps) -> Result<String, AllocError>
     Ok(text)
 }
 
+/// The text of one part of the maps' records.
+pub fn part_text(alloc: Global, maps: &Maps, part: Part) -> Result<String, AllocError>
+    ensures { IfOk result (λ text. IsTextOfPart part maps.now (string_bytes text)) }
+{
+    let mut text = String::new(alloc);
+    match part {
+        Part::Files => push_all_extents(alloc, &mut text, maps)?,
+        Part::Free => push_all_free(alloc, &mut text, maps)?,
+    }
+    Ok(text)
+}
+
 /// The maps after the steps.
 fn maps_of(alloc: Global, steps: &[Step]) -> Result<Maps, AllocError>
     requires { All Fits steps.now }
@@ -126,7 +111,7 @@ pub fn records_text(alloc: Global, script: &[u8]) -> Result<String, ScriptFault>
 pub fn expect<I: Source>(alloc: Global, source: &mut I) -> Result<String, Failure>
     ensures text { IfOk result (λ text. ExpectsOf (I.left source.old) (string_bytes text)) }
     ensures end { OnOk result (IfSome (I.left source.old) (λ _. I.left source.new ≡ Some [])) }
-    ensures failure { IfErr result (HasFailure (I.left source.old) (Rose (I.faults source.old) (I.faults source.new))) }
+    ensures failure { IfErr result (ExpectFails (I.left source.old) (Rose (I.faults source.old) (I.faults source.new))) }
     ensures limit { StaysWithin (Rose (I.faults source.old) (I.faults source.new)) (MAX_BYTES + 1) (I.left source.old) (I.left source.new) }
     ensures count { I.faults source.old ≤ I.faults source.new }
 {

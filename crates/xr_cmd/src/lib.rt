@@ -2,12 +2,16 @@
 #![tactic(auto)]
 
 mod expect;
+mod failure;
 mod fields;
+mod fresh;
+mod making;
 mod program;
 mod script;
 mod streams;
 mod text;
 mod words;
 
+pub use making::mkfs;
 pub use program::{Ended, without_memory, xreflink};
 pub use script::{MAX_BYTES, MAX_LINES, ScriptFault, parse_steps};

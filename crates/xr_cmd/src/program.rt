@@ -1,27 +1,44 @@
-//! The whole program, over any source and sink.
-ghost use Rattle.std.specs.Prelude.{◌≡◌, ◌+◌, ◌≤◌, [], Some, IfSome};
-ghost use Rattle.xr_base.specs.Cause.{Rose};
+//! The whole program, over any source, sink and disk.
+ghost use Rattle.std.specs.Prelude.{◌≡◌, ◌+◌, ◌≤◌, [], None, Some, IfSome, IfOk, IfErr, OnOk, OnErr};
 ghost use Rattle.std.specs.Cow.{cow_str_bytes};
-ghost use Rattle.xr_cmd.specs.Answer.{code_of, Refuses, Says, Finishes, Ends};
+ghost use Rattle.std.specs.String.{string_bytes};
+ghost use Rattle.xr_base.specs.Cause.{Rose};
+ghost use Rattle.xr_disk.specs.Disk.{OnlyReads};
+ghost use Rattle.xr_cmd.specs.Answer.{code_of, DoneWith, Refuses, Says, Finishes, Ends};
 ghost use Rattle.xr_cmd.specs.declared.program.Status.TheVariants.{Done, Memory};
-ghost use Rattle.xr_cmd.specs.RecordText.{memory_text};
 ghost use Rattle.xr_cmd.specs.declared.script.TheConstants.{MAX_BYTES};
+ghost use Rattle.xr_cmd.specs.declared.words.Command.TheVariants.{Expect, Mkfs, Show};
+ghost use Rattle.xr_cmd.specs.Failures.{HasFailure, MkfsFails, ShowFails};
+ghost use Rattle.xr_cmd.specs.RecordText.{memory_text};
 ghost use Rattle.xr_cmd.specs.Streams.{StaysWithin};
-ghost use Rattle.xr_cmd.specs.Words.{IsNoCommand, texts_of};
+ghost use Rattle.xr_cmd.specs.Words.{AsksOnly, IsCommand, ReadsDisk, ReadsNoScript, UsesNoDisk, texts_of};
 
-use crate::expect::{Failure, expect};
+use crate::expect::{expect, part_text};
+use crate::failure::Failure;
+use crate::fresh::first_foreign;
+use crate::making::mkfs;
 use crate::streams::put_all;
-use crate::text::{MEMORY_LINE, SOURCE_LINE, WORDS_LINE, bad_line};
-use crate::words::{Command, command_of};
-use std::alloc::Global;
+use crate::text::{
+    DISK_LINE, MEMORY_LINE, SOURCE_LINE, WORDS_LINE, bad_line, foreign_line, made_line,
+};
+use crate::words::{Command, Part, command_of};
+use std::alloc::{AllocError, Global};
 use std::borrow::CowStr;
-use xr_disk::{Sink, Source};
+use std::thread::Threads;
+use uuid::Uuid;
+use xr_disk::{Disk, Sink, Source};
+use xr_maps::Maps;
+
+/// The cycle with which the log of a new image begins.
+const FIRST_CYCLE: u32 = 1;
 
 /// How the program ended.
-#[derive(Clone, Copy, Debug, PartialEq, Eq)]
-pub struct Ended {
+#[derive(Drop)]
+pub struct Ended<D> {
     /// The status with which the process is to end.
     pub status: u8,
+    /// The disk that it was given.
+    pub disk: D,
 }
 
 #[derive(Clone, Copy)]
@@ -31,6 +48,8 @@ pub(crate) enum Status {
     Line,
     Source,
     Sink,
+    Disk,
+    Foreign,
     Memory,
 }
 
@@ -44,6 +63,8 @@ impl Status {
             Status::Line => 3,
             Status::Source => 4,
             Status::Sink => 5,
+            Status::Disk => 6,
+            Status::Foreign => 7,
             Status::Memory => 8,
         }
     }
@@ -56,45 +77,111 @@ struct Answer {
     text: CowStr<'static, Global>,
 }
 
-/// The answer where there is no text of records. A bad line's own answer needs memory.
+/// A line that never wants memory.
+fn fixed(said: Status, line: &'static str) -> Answer
+    ensures said { result.said ≡ said }
+    ensures text { cow_str_bytes result.text ≡ line.now }
+{
+    Answer {
+        said,
+        text: CowStr::Borrowed(line),
+    }
+}
+
+/// A line that wanted memory, or the line that says that there is none.
+fn written(said: Status, line: Result<String, AllocError>) -> Answer
+    ensures ok { IfOk line (λ text. (result.said ≡ said) × (cow_str_bytes result.text ≡ string_bytes text)) }
+    ensures err { OnErr line ((result.said ≡ Memory) × (cow_str_bytes result.text ≡ memory_text)) }
+{
+    match line {
+        Ok(text) => Answer {
+            said,
+            text: CowStr::Owned(text),
+        },
+        Err(_) => fixed(Status::Memory, MEMORY_LINE),
+    }
+}
+
+/// The answer to a failure. A line with a number needs memory.
 fn refusal(alloc: Global, failure: Failure) -> Answer
     ensures { Refuses failure result.said (cow_str_bytes result.text) }
 {
     match failure {
-        Failure::SourceFailed => Answer {
-            said: Status::Source,
-            text: CowStr::Borrowed(SOURCE_LINE),
-        },
-        Failure::NoMemory => Answer {
-            said: Status::Memory,
-            text: CowStr::Borrowed(MEMORY_LINE),
-        },
-        Failure::BadLine(number) => match bad_line(alloc, number) {
-            Ok(text) => Answer {
-                said: Status::Line,
-                text: CowStr::Owned(text),
-            },
-            Err(_) => Answer {
-                said: Status::Memory,
-                text: CowStr::Borrowed(MEMORY_LINE),
-            },
-        },
+        Failure::BadLine(number) => written(Status::Line, bad_line(alloc, number)),
+        Failure::SourceFailed => fixed(Status::Source, SOURCE_LINE),
+        Failure::DiskFailed => fixed(Status::Disk, DISK_LINE),
+        Failure::ForeignBlock(block) => written(Status::Foreign, foreign_line(alloc, block, 12)),
+        Failure::NoMemory => fixed(Status::Memory, MEMORY_LINE),
     }
 }
 
-fn answer_to<I: Source>(alloc: Global, words: &[&str], script: &mut I) -> Answer
-    ensures says { Says (texts_of words.now) (I.left script.old) (Rose (I.faults script.old) (I.faults script.new)) result.said (cow_str_bytes result.text) }
-    ensures unread { IsNoCommand (texts_of words.now) → script.new ≡ script.old }
-    ensures end { result.said ≡ Done → IfSome (I.left script.old) (λ _. I.left script.new ≡ Some []) }
+/// Formats the disk, and gives the line that says so. The line comes first, so that want of memory leaves the disk.
+fn format<D: Disk>(alloc: Global, disk: &mut D, uuid: &Uuid) -> Result<String, Failure>
+    ensures done { IfOk result (λ text. DoneWith None (D.view disk.old) (D.view disk.new) (Mkfs uuid.now) (string_bytes text)) }
+    ensures failure { IfErr result (MkfsFails (Rose (D.view disk.old).faults (D.view disk.new).faults)) }
+    ensures count { (D.view disk.old).faults ≤ (D.view disk.new).faults }
+{
+    let line = made_line(alloc, uuid)?;
+    mkfs(disk, uuid, FIRST_CYCLE)?;
+    Ok(line)
+}
+
+/// The text of a part of an image, which has to be fresh until trees are read.
+fn show<D: Disk>(alloc: Global, disk: &mut D, part: Part) -> Result<String, Failure>
+    ensures done { IfOk result (λ text. DoneWith None (D.view disk.old) (D.view disk.new) (Show part) (string_bytes text)) }
+    ensures failure { IfErr result (ShowFails (D.view disk.old).seen (Rose (D.view disk.old).faults (D.view disk.new).faults)) }
+    ensures reads { OnlyReads (D.view disk.old) (D.view disk.new) }
+    ensures count { (D.view disk.old).faults ≤ (D.view disk.new).faults }
+{
+    match first_foreign(disk)? {
+        Some(block) => Err(Failure::ForeignBlock(block)),
+        None => Ok(part_text(alloc, &Maps::new(alloc)?, part)?),
+    }
+}
+
+/// Does what a command asks for, and gives its text.
+fn perform<D: Disk, I: Source>(
+    alloc: Global,
+    command: &Command,
+    script: &mut I,
+    disk: &mut D,
+) -> Result<String, Failure>
+    ensures done { IfOk result (λ text. DoneWith (I.left script.old) (D.view disk.old) (D.view disk.new) command.now (string_bytes text)) }
+    ensures failure { IfErr result (HasFailure (I.left script.old) (Rose (I.faults script.old) (I.faults script.new)) (D.view disk.old) (D.view disk.new) command.now) }
+    ensures read_to_end { command.now ≡ Expect → OnOk result (IfSome (I.left script.old) (λ _. I.left script.new ≡ Some [])) }
     ensures limit { StaysWithin (Rose (I.faults script.old) (I.faults script.new)) (MAX_BYTES + 1) (I.left script.old) (I.left script.new) }
-    ensures count { I.faults script.old ≤ I.faults script.new }
+    ensures unread { ReadsNoScript command.now → script.new ≡ script.old }
+    ensures untouched { UsesNoDisk command.now → disk.new ≡ disk.old }
+    ensures reads { ReadsDisk command.now → OnlyReads (D.view disk.old) (D.view disk.new) }
+    ensures source_count { I.faults script.old ≤ I.faults script.new }
+    ensures disk_count { (D.view disk.old).faults ≤ (D.view disk.new).faults }
+{
+    match command {
+        Command::Expect => expect(alloc, script),
+        Command::Mkfs { uuid } => format(alloc, disk, uuid),
+        Command::Show { part } => show(alloc, disk, *part),
+    }
+}
+
+fn answer_to<D: Disk, I: Source>(
+    alloc: Global,
+    words: &[&str],
+    script: &mut I,
+    disk: &mut D,
+) -> Answer
+    ensures says { Says (texts_of words.now) (I.left script.old) (Rose (I.faults script.old) (I.faults script.new))
+        (D.view disk.old) (D.view disk.new) result.said (cow_str_bytes result.text) }
+    ensures read_to_end { IsCommand (texts_of words.now) Expect → result.said ≡ Done → IfSome (I.left script.old) (λ _. I.left script.new ≡ Some []) }
+    ensures limit { StaysWithin (Rose (I.faults script.old) (I.faults script.new)) (MAX_BYTES + 1) (I.left script.old) (I.left script.new) }
+    ensures unread { AsksOnly (texts_of words.now) ReadsNoScript → script.new ≡ script.old }
+    ensures untouched { AsksOnly (texts_of words.now) UsesNoDisk → disk.new ≡ disk.old }
+    ensures reads { AsksOnly (texts_of words.now) ReadsDisk → OnlyReads (D.view disk.old) (D.view disk.new) }
+    ensures source_count { I.faults script.old ≤ I.faults script.new }
+    ensures disk_count { (D.view disk.old).faults ≤ (D.view disk.new).faults }
 {
     match command_of(words) {
-        None => Answer {
-            said: Status::Words,
-            text: CowStr::Borrowed(WORDS_LINE),
-        },
-        Some(Command::Expect) => match expect(alloc, script) {
+        None => fixed(Status::Words, WORDS_LINE),
+        Some(command) => match perform(alloc, &command, script, disk) {
             Ok(text) => Answer {
                 said: Status::Done,
                 text: CowStr::Owned(text),
@@ -104,51 +191,57 @@ fn answer_to<I: Source>(alloc: Global, words: &[&str], script: &mut I) -> Answer
     }
 }
 
-/// Writes the text, and ends with its status, or with that of a sink that failed.
-fn finish<O: Sink>(out: &mut O, answer: &Answer) -> Ended
+/// Writes the text, and gives its status, or that of a sink that failed.
+fn finish<O: Sink>(out: &mut O, answer: &Answer) -> u8
     ensures ends { Finishes (O.held out.old) (O.held out.new) (Rose (O.faults out.old) (O.faults out.new))
-        answer.now.said (cow_str_bytes answer.now.text) result.status }
+        answer.now.said (cow_str_bytes answer.now.text) result }
     ensures count { O.faults out.old ≤ O.faults out.new }
 {
     let status = match put_all(out, answer.text.as_bytes()) {
         Ok(()) => answer.said,
         Err(_) => Status::Sink,
     };
-    Ended {
-        status: status.code(),
-    }
+    status.code()
 }
 
 /// Does what the words ask for, which don't hold the program's name. All that is printed goes to `out`, in one text that
-/// the status goes with: 0 with the text of the records, 2 for words that are no command's, 3 for a bad line, 4 for a
-/// source that failed, 5 for a sink that failed, before all others, and 8 for want of memory.
-pub fn xreflink<I: Source, O: Sink>(
+/// the status goes with: 0 with the text of the command, 2 for words that are no command's, 3 for a bad line, 4 for a
+/// source that failed, 5 for a sink that failed, before all others, 6 for a disk that failed, 7 for an image that isn't
+/// one of the program's, and 8 for want of memory.
+pub fn xreflink<R: Threads + Sync, D: Disk + Send, I: Source, O: Sink>(
+    _rt: &R,
     alloc: Global,
     words: &[&str],
     script: &mut I,
     out: &mut O,
-) -> Ended
+    mut disk: D,
+) -> Ended<D>
     ensures ends { Ends (texts_of words.now) (I.left script.old) (Rose (I.faults script.old) (I.faults script.new))
-        (O.held out.old) (O.held out.new) (Rose (O.faults out.old) (O.faults out.new)) result.status }
-    ensures unread { IsNoCommand (texts_of words.now) → script.new ≡ script.old }
-    ensures read_to_end { result.status ≡ 0 → IfSome (I.left script.old) (λ _. I.left script.new ≡ Some []) }
+        (D.view disk) (D.view result.disk) (O.held out.old) (O.held out.new) (Rose (O.faults out.old) (O.faults out.new)) result.status }
+
+    // What the source and the disk are left as.
+    ensures read_to_end { IsCommand (texts_of words.now) Expect → result.status ≡ 0 → IfSome (I.left script.old) (λ _. I.left script.new ≡ Some []) }
     ensures limit { StaysWithin (Rose (I.faults script.old) (I.faults script.new)) (MAX_BYTES + 1) (I.left script.old) (I.left script.new) }
+    ensures unread { AsksOnly (texts_of words.now) ReadsNoScript → script.new ≡ script.old }
+    ensures untouched { AsksOnly (texts_of words.now) UsesNoDisk → result.disk ≡ disk }
+    ensures reads { AsksOnly (texts_of words.now) ReadsDisk → OnlyReads (D.view disk) (D.view result.disk) }
+
+    // Faults are counted, and no count falls.
     ensures source_count { I.faults script.old ≤ I.faults script.new }
     ensures sink_count { O.faults out.old ≤ O.faults out.new }
+    ensures disk_count { (D.view disk).faults ≤ (D.view result.disk).faults }
 {
-    finish(out, &answer_to(alloc, words, script))
+    let answer = answer_to(alloc, words, script, &mut disk);
+    Ended {
+        status: finish(out, &answer),
+        disk,
+    }
 }
 
-/// Says that there is no memory, where the words couldn't be read for want of it.
-pub fn without_memory<O: Sink>(out: &mut O) -> Ended
-    ensures ends { Finishes (O.held out.old) (O.held out.new) (Rose (O.faults out.old) (O.faults out.new)) Memory memory_text result.status }
+/// Says that there is no memory, where the words couldn't be read for want of it, and gives the status.
+pub fn without_memory<O: Sink>(out: &mut O) -> u8
+    ensures ends { Finishes (O.held out.old) (O.held out.new) (Rose (O.faults out.old) (O.faults out.new)) Memory memory_text result }
     ensures count { O.faults out.old ≤ O.faults out.new }
 {
-    finish(
-        out,
-        &Answer {
-            said: Status::Memory,
-            text: CowStr::Borrowed(MEMORY_LINE),
-        },
-    )
+    finish(out, &fixed(Status::Memory, MEMORY_LINE))
 }

@@ -1,9 +1,9 @@
 //! Scripts of mapping steps, a step a line.
-ghost use Rattle.std.specs.Prelude.{◌≡◌, ◌↔◌, ◌==◌, position, IsTrue, MatchOption, IfOk, IfErr};
+ghost use Rattle.std.specs.Prelude.{◌≡◌, ◌↔◌, ◌==◌, codes, position, IsTrue, MatchOption, IfOk, IfErr};
 ghost use Rattle.std.specs.List.{before_first, after_first};
 ghost use Rattle.xr_maps.specs.declared.steps.Step.{Step};
 ghost use Rattle.xr_cmd.specs.declared.script.ScriptFault.TheVariants.{NoMemory};
-ghost use Rattle.xr_cmd.specs.Script.{LineGives, IsPassedOver, IsRemap, AreStepsOf, HasNoBadLine, IsFaultOf};
+ghost use Rattle.xr_cmd.specs.Script.{LineGives, IsPassedOver, IsStepAfter, AreStepsOf, HasNoBadLine, IsFaultOf};
 
 use crate::fields::{field, number};
 use std::alloc::{AllocError, AllocFailed, Global};
@@ -74,7 +74,7 @@ fn is_passed_over(line: &[u8]) -> bool
 
 /// The step that the words after `remap` stand for, which may not fit.
 fn remap_of(words: &str) -> Option<Step>
-    ensures { MatchOption result ((step : Step) → ¬ IsRemap words.now step) (IsRemap words.now) }
+    ensures { MatchOption result ((step : Step) → ¬ IsStepAfter (codes "remap") words.now step) (IsStepAfter (codes "remap") words.now) }
 {
     let (file, words) = field(words)?;
     let (off, words) = field(words)?;
@@ -88,6 +88,50 @@ fn remap_of(words: &str) -> Option<Step>
     })
 }
 
+/// The step that the words after `punch` stand for, which may not fit.
+fn punch_of(words: &str) -> Option<Step>
+    ensures { MatchOption result ((step : Step) → ¬ IsStepAfter (codes "punch") words.now step) (IsStepAfter (codes "punch") words.now) }
+{
+    let (file, words) = field(words)?;
+    let (off, words) = field(words)?;
+    let len = number(words)?;
+    Some(Step::Punch {
+        file: FileNo(file),
+        off,
+        len,
+    })
+}
+
+/// The step that the words after `exchange` stand for, which may not fit.
+fn exchange_of(words: &str) -> Option<Step>
+    ensures { MatchOption result ((step : Step) → ¬ IsStepAfter (codes "exchange") words.now step) (IsStepAfter (codes "exchange") words.now) }
+{
+    let (file, words) = field(words)?;
+    let (off, words) = field(words)?;
+    let (other, words) = field(words)?;
+    let (other_off, words) = field(words)?;
+    let len = number(words)?;
+    Some(Step::Exchange {
+        file: FileNo(file),
+        off,
+        other: FileNo(other),
+        other_off,
+        len,
+    })
+}
+
+/// The step that a line's first word and the words after it stand for, which may not fit.
+fn step_after(kind: &str, words: &str) -> Option<Step>
+    ensures { MatchOption result ((step : Step) → ¬ IsStepAfter kind.now words.now step) (IsStepAfter kind.now words.now) }
+{
+    match kind {
+        "remap" => remap_of(words),
+        "punch" => punch_of(words),
+        "exchange" => exchange_of(words),
+        _ => None,
+    }
+}
+
 /// The step that a line stands for.
 fn step_of(line: &[u8]) -> Option<Step>
     ensures { MatchOption result ((step : Step) → ¬ LineGives line.now step) (LineGives line.now) }
@@ -96,16 +140,13 @@ fn step_of(line: &[u8]) -> Option<Step>
         return None;
     };
     let (kind, words) = line.split_once(' ')?;
-    let step = match kind {
-        "remap" => remap_of(words)?,
-        _ => return None,
-    };
+    let step = step_after(kind, words)?;
     if fits(&step) { Some(step) } else { None }
 }
 
-/// The steps of a script, a step a line, as `remap F OFF LEN AT`, with one space between the words and the numbers in
-/// decimal. The last line may lack its newline. An empty line and a comment, which begins with `#` and may hold any
-/// bytes, are passed over, but counted.
+/// The steps of a script, a step a line: `remap F OFF LEN AT`, `punch F OFF LEN` or `exchange F OFF G OFF LEN`, with one
+/// space between the words and the numbers in decimal. The last line may lack its newline. An empty line and a comment,
+/// which begins with `#` and may hold any bytes, are passed over, but counted.
 pub fn parse_steps(alloc: Global, bytes: &[u8]) -> Result<Vec<Step>, ScriptFault>
     ensures steps { IfOk result (λ steps. AreStepsOf bytes.now steps.items) }
     ensures sound { IfOk result (λ _. HasNoBadLine bytes.now) }

@@ -2,10 +2,11 @@
 //! is known of the text.
 ghost use Rattle.std.specs.Prelude.{◌≡◌, ◌≤◌, ◌++◌, All, IfOk, OnOk};
 ghost use Rattle.std.specs.String.{string_bytes};
-ghost use Rattle.xr_cmd.specs.RecordText.{extents_text, owners_text, shared_text, free_text, bad_line_text};
+ghost use Rattle.xr_cmd.specs.RecordText.{extents_text, owners_text, shared_text, free_text, bad_line_text, foreign_text, made_text};
 
 use std::alloc::{AllocError, Global};
 use std::fmt::Write;
+use uuid::Uuid;
 use xr_base::Run;
 use xr_base::geometry::FIRST_INODE;
 use xr_maps::{Counted, Extent, Rev};
@@ -16,6 +17,9 @@ pub const WORDS_LINE: &str = "words\n";
 /// The line for a source that failed.
 pub const SOURCE_LINE: &str = "source\n";
 
+/// The line for a disk that failed.
+pub const DISK_LINE: &str = "disk\n";
+
 /// The line for want of memory.
 pub const MEMORY_LINE: &str = "memory\n";
 
@@ -24,6 +28,26 @@ pub fn bad_line(alloc: Global, number: u32) -> Result<String, AllocError>
     ensures { IfOk result (λ text. string_bytes text ≡ bad_line_text number) }
 {
     format!(in alloc; "line {number}\n")
+}
+
+/// The line for a block that isn't one of the program's, with the number of the cause.
+pub fn foreign_line(alloc: Global, block: u32, why: u32) -> Result<String, AllocError>
+    ensures { IfOk result (λ text. string_bytes text ≡ foreign_text block why) }
+{
+    let mut text = String::new(alloc);
+    writeln!(text, "foreign {block} {why}")?;
+    Ok(text)
+}
+
+/// The line for an image that was made.
+pub fn made_line(alloc: Global, uuid: &Uuid) -> Result<String, AllocError>
+    ensures { IfOk result (λ text. string_bytes text ≡ made_text uuid.now) }
+{
+    let mut buffer = Uuid::encode_buffer();
+    let uuid = uuid.hyphenated().encode_lower(&mut buffer);
+    let mut text = String::new(alloc);
+    writeln!(text, "made {uuid}")?;
+    Ok(text)
 }
 
 /// Appends the extents of a file.

@@ -1,1 +1,2 @@
+pub mod MemoryCalls
 pub mod Taking

@@ -1,4 +1,13 @@
+pub mod Crash
+pub mod CrashLaws
+pub mod Disk
+pub mod EventLaws
+pub mod Events
+pub mod FileDisk
+pub mod FileDiskView
 pub mod Memory
+pub mod MemoryDisk
 pub mod Plan
+pub mod Runs
 pub mod Standard
 pub mod Stream

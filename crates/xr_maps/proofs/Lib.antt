@@ -6,5 +6,6 @@ pub mod CountLemmas
 pub mod CountedRunLemmas
 pub mod GroupRunLemmas
 pub mod MapLemmas
+pub mod ExchangeLemmas
 pub mod OwnerLemmas
 pub mod OrderLemmas

@@ -14,7 +14,7 @@ use Rattle.xr_base.specs.declared.geometry.TheConstants.{OFFSETS}
 use Rattle.xr_base.specs.Address.{IsData, IsGoodRun, address_after}
 use Rattle.xr_maps.specs.declared.records.Extent.{Extent}
 use Rattle.xr_maps.specs.Records.{AreExtentsOf, AreExtents}
-use Rattle.xr_maps.specs.FileMaps.{address_at, AreGoodMaps}
+use Rattle.xr_maps.specs.FileMaps.{address_at, AreGoodMaps, tabulated}
 use Rattle.xr_maps.specs.FileMapLaws.{get-tabulated, get-tabulated_past, tabulated_same}
 use Rattle.xr_maps.specs.Steps.{is_within, remapped_slot, punched_slot, with_file_changed}
 use Rattle.xr_maps.specs.Tables.{slot_of, IsTable, AreTables, map_of_table, maps_of_tables}
@@ -22,11 +22,15 @@ use Rattle.xr_maps.specs.Tables.{slot_of, IsTable, AreTables, map_of_table, maps
 past_table : (table : List (Option Addr)) (off : ℕ) → IsTable table → OFFSETS ≤ off → slot_of table off ≡ None
 past_table table off h past = get_or_past table off None (let l = h.slots in omega arith)
 
+-- a function that says nothing past the offsets is what its map says
+pub get-tabulated_whole : (slots : ℕ → Option Addr) (o : ℕ) → (OFFSETS ≤ o → slots o ≡ None) → get (tabulated OFFSETS slots) o ≡ slots o
+get-tabulated_whole slots o none = ⊎_elim
+    (λ (below : o < OFFSETS). get-tabulated OFFSETS slots o below)
+    (λ (past : OFFSETS ≤ o). get-tabulated_past OFFSETS slots o past ∙ sym (none past))
+    (cases_lt o OFFSETS)
+
 get-map_of_table : (table : List (Option Addr)) (off : ℕ) → IsTable table → get (map_of_table table) off ≡ slot_of table off
-get-map_of_table table off h = ⊎_elim
-    (λ (below : off < OFFSETS). get-tabulated OFFSETS (slot_of table) off below)
-    (λ (past : OFFSETS ≤ off). get-tabulated_past OFFSETS (slot_of table) off past ∙ sym (past_table table off h past))
-    (cases_lt off OFFSETS)
+get-map_of_table table off h = get-tabulated_whole (slot_of table) off (past_table table off h)
 
 map_at : (tables : List (Vec (Option Addr))) (file : ℕ) (table : Vec (Option Addr)) → file < length tables → table ≡ get_or tables file table
     → get_or (maps_of_tables tables) file empty ≡ map_of_table table.items
@@ -74,7 +78,7 @@ good_offset tables are file off there = ⊎_elim
     (λ (outside : length tables ≤ file). absurd (some_is_not_none _ (no_such_file tables file off outside) there))
     (cases_lt file (length tables))
 
-good_block : (tables : List (Vec (Option Addr))) → AreTables tables → (file off : ℕ) → IfSome (address_at (maps_of_tables tables) file off) IsData
+pub good_block : (tables : List (Vec (Option Addr))) → AreTables tables → (file off : ℕ) → IfSome (address_at (maps_of_tables tables) file off) IsData
 good_block tables are file off = let P : Option Addr → Type 0 = λ slot. IfSome slot IsData in ⊎_elim
     (λ (inside : file < length tables). let t = table_of tables file inside in
     subst P (sym (address_in_table tables file off t.0 are inside t.1)) ((IsTable-read tables file t.0 are inside t.1).data_blocks off))
@@ -152,29 +156,33 @@ pub record ChangesTable (changed : ℕ → Option Addr → Option Addr) (old new
   pub are : AreTables new
   pub maps : maps_of_tables new ≡ with_file_changed (maps_of_tables old) file changed
 
-pub table_changed : (changed : ℕ → Option Addr → Option Addr) (tables : List (Vec (Option Addr))) (file : ℕ) (d : Vec (Option Addr)) (written : List (Option Addr))
+pub table_changed : (changed : ℕ → Option Addr → Option Addr) (tables : List (Vec (Option Addr))) (file : ℕ) (d new : Vec (Option Addr))
+    → AreTables tables → file < length tables → Changes changed (get_or tables file d).items new.items
+    → ChangesTable changed tables (set tables file new) file
+table_changed changed tables file d new are inside change =
+    let old = get_or tables file d in
+    let read : old ≡ get_or tables file old = get_or_default tables file d old inside in
+    record {
+      are = AreTables-changed changed tables file old new are inside read change;
+      maps = maps_of_tables-changed changed tables file old new are inside read change;
+    }
+
+-- the same where a call wrote the table through a slice of all of it
+pub table_written : (changed : ℕ → Option Addr → Option Addr) (tables : List (Vec (Option Addr))) (file : ℕ) (d : Vec (Option Addr)) (written : List (Option Addr))
     → AreTables tables → file < length tables → Changes changed (get_or tables file d).items written
     → ChangesTable changed tables (set tables file (with_items (get_or tables file d) written)) file
-table_changed changed tables file d written are inside change =
+table_written changed tables file d written are inside change =
     let old = get_or tables file d in
-    let new = with_items old written in
-    let read : old ≡ get_or tables file old = get_or_default tables file d old inside in
-    let is : new.items ≡ written = with_items_is old written (change.long ∙ vec_long old) in
-    let whole : Changes changed old.items new.items = record {
+    let is : (with_items old written).items ≡ written = with_items_is old written (change.long ∙ vec_long old) in
+    table_changed changed tables file d (with_items old written) are inside (record {
       long = ap length is ∙ change.long;
       slots = λ o. ap (λ t. slot_of t o) is ∙ change.slots o;
       keeps = change.keeps;
-    } in
-    record {
-      are = AreTables-changed changed tables file old new are inside read whole;
-      maps = maps_of_tables-changed changed tables file old new are inside read whole;
-    }
+    })
 
 empty_map : (table : List (Option Addr)) → ((o : ℕ) → slot_of table o ≡ None) → map_of_table table ≡ empty
-empty_map table holes = same_map nat_cmp_total nat_cmp-IsAntisymmetric (map_of_table table) empty (λ q. ⊎_elim
-    (λ (below : q < OFFSETS). get-tabulated OFFSETS (slot_of table) q below ∙ holes q ∙ sym (get-empty nat_cmp q))
-    (λ (past : OFFSETS ≤ q). get-tabulated_past OFFSETS (slot_of table) q past ∙ sym (get-empty nat_cmp q))
-    (cases_lt q OFFSETS))
+empty_map table holes = same_map nat_cmp_total nat_cmp-IsAntisymmetric (map_of_table table) empty (λ q.
+    get-tabulated_whole (slot_of table) q (λ past. holes q) ∙ holes q ∙ sym (get-empty nat_cmp q))
 
 -- one more file without a block
 pub empty_pushed : (tables : List (Vec (Option Addr))) (table : Vec (Option Addr)) (n : ℕ) → maps_of_tables tables ≡ replicate n empty

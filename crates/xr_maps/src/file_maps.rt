@@ -7,6 +7,7 @@ ghost use Rattle.xr_maps.specs.Records.{AreExtents, AreReverseRecords, AreRefere
 ghost use Rattle.xr_maps.specs.Tables.{AreTables, maps_of_tables};
 
 use crate::counts::{free_in, shared_in};
+use crate::exchange::{exchange, slot_at};
 use crate::owners::owners_in;
 use crate::records::{Counted, Extent, Rev};
 use crate::steps::Step;
@@ -60,6 +61,15 @@ fn change(tables: &mut [Vec<Option<Addr>>], step: &Step)
         Step::Punch { file, off, len } => {
             punch(&mut tables[file.0 as usize], off as usize, len as usize);
         }
+        Step::Exchange {
+            file,
+            off,
+            other,
+            other_off,
+            len,
+        } => {
+            exchange(tables, file, off, other, other_off, len);
+        }
     }
 }
 
@@ -89,7 +99,7 @@ impl Maps {
         requires off { off < OFFSETS }
         ensures { result ≡ address_at self.now file.0 off }
     {
-        self.tables[file.0 as usize][off as usize]
+        slot_at(&self.tables, file, off)
     }
 
     /// The extents of a file, by offset.

@@ -2,6 +2,7 @@
 #![tactic(auto)]
 
 mod counts;
+mod exchange;
 mod file_maps;
 mod laws;
 mod owners;

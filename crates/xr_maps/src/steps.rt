@@ -5,7 +5,7 @@ ghost use Rattle.xr_maps.specs.Steps.{Fits, IsFileRange};
 use xr_base::geometry::{FILES, OFFSETS};
 use xr_base::{Addr, FileNo, Run, good_run};
 
-/// One change of the map of a file. Offsets and lengths are in blocks.
+/// One change of the maps of the files. Offsets and lengths are in blocks.
 #[derive(Clone, Copy, Debug, PartialEq, Eq)]
 pub enum Step {
     /// Puts the blocks from `at` on at the offsets from `off` on.
@@ -21,6 +21,15 @@ pub enum Step {
         off: u32,
         len: u32,
     },
+    /// Swaps what the offsets from `off` on hold with what those of the other file from `other_off` on hold, holes
+    /// included. On one file the two ranges have no offset in common.
+    Exchange {
+        file: FileNo,
+        off: u32,
+        other: FileNo,
+        other_off: u32,
+        len: u32,
+    },
 }
 
 fn is_file_range(file: FileNo, off: u32, len: u32) -> bool
@@ -29,7 +38,8 @@ fn is_file_range(file: FileNo, off: u32, len: u32) -> bool
     file.0 < FILES && len > 0 && off < OFFSETS && len <= OFFSETS - off
 }
 
-/// Whether the step names a file and offsets that there are and, where it maps blocks, data blocks of one group.
+/// Whether the step names files and offsets that there are and, where it maps blocks, data blocks of one group, and
+/// whether the ranges that it exchanges have no offset in common.
 pub fn fits(step: &Step) -> bool
     ensures { IsTrue result ↔ Fits step.now }
 {
@@ -38,5 +48,16 @@ pub fn fits(step: &Step) -> bool
             is_file_range(file, off, len) && good_run(&Run { start: at, len })
         }
         Step::Punch { file, off, len } => is_file_range(file, off, len),
+        Step::Exchange {
+            file,
+            off,
+            other,
+            other_off,
+            len,
+        } => {
+            is_file_range(file, off, len)
+                && is_file_range(other, other_off, len)
+                && (file != other || off + len <= other_off || other_off + len <= off)
+        }
     }
 }

@@ -1,7 +1,7 @@
 //! Limits of a script, and the small calls of the base crates.
 
 use std::test::Fail;
-use xr_base::{Addr, FileNo, GroupNo, Run, good_run, group_of, is_data};
+use xr_base::{Addr, FileNo, GroupNo, Run, crc32c, crc32c_without, good_run, group_of, is_data};
 use xr_cmd::{MAX_BYTES, MAX_LINES, ScriptFault, parse_steps};
 use xr_disk::{Sink, Source, StdSink, StdSource};
 use xr_maps::{Maps, Step, fits};
@@ -40,6 +40,31 @@ fn tells_data_addresses_and_good_runs(rt: HostRuntime) {
     }
     assert!(rt; is_data(Addr(6656)));
     assert_eq!(rt; group_of(Addr(6656)), GroupNo(3));
+}
+
+/// Bytes and their CRC32C.
+const CHECKSUMS: [(&[u8], u32); 7] = [
+    (b"", 0),
+    (b"123456789", 0xE306_9283),
+    (b"The quick brown fox jumps over the lazy dog", 0x2262_0404),
+    (&[0; 32], 0x8A91_36AA),
+    (&[0xFF; 32], 0x62A8_AB43),
+    (
+        b"\x00\x01\x02\x03\x04\x05\x06\x07\x08\x09\x0A\x0B\x0C\x0D\x0E\x0F\x10\x11\x12\x13\x14\x15\x16\x17\x18\x19\x1A\x1B\x1C\x1D\x1E\x1F",
+        0x46DD_794E,
+    ),
+    (
+        b"\x1F\x1E\x1D\x1C\x1B\x1A\x19\x18\x17\x16\x15\x14\x13\x12\x11\x10\x0F\x0E\x0D\x0C\x0B\x0A\x09\x08\x07\x06\x05\x04\x03\x02\x01\x00",
+        0x113F_DB5C,
+    ),
+];
+
+#[test]
+fn computes_checksums(rt: HostRuntime) {
+    for (bytes, wanted) in CHECKSUMS {
+        assert_eq!(rt; crc32c(bytes), wanted, "{bytes:?}");
+    }
+    assert_eq!(rt; crc32c_without(b"123456789", 3), 0x47C7_D3EC);
 }
 
 #[test]

@@ -1,40 +1,49 @@
 //! Rows of `expect`: what a script prints, over a source and a sink in memory.
 
-use std::alloc::{AllocError, Global};
+use std::alloc::AllocError;
 use std::test::Fail;
+use std::thread::Threads;
 use xr_cmd::xreflink;
-use xr_disk::{MemSink, MemSource};
+use xr_disk::{FileDisk, MemSink, MemSource};
 
 /// What a run ended with, and what it wrote.
 #[derive(Drop)]
-struct Outcome {
-    status: u8,
-    written: Vec<u8>,
+pub(crate) struct Outcome {
+    pub(crate) status: u8,
+    pub(crate) written: Vec<u8>,
 }
 
-fn outcome_of(
-    alloc: Global,
+/// A disk over no file.
+pub(crate) fn no_disk(rt: &HostRuntime) -> Result<FileDisk<HostRuntime>, AllocError> {
+    Ok(FileDisk::new(rt.clone()?, String::new(rt.alloc()), false))
+}
+
+/// Runs a command that makes no call on its disk.
+pub(crate) fn outcome_of<R: Threads + Sync + AllocGlobal>(
+    rt: &R,
+    disk: FileDisk<HostRuntime>,
     words: &[&str],
     script: &[u8],
     source_fails: &[u64],
     sink_fails: &[u64],
 ) -> Result<Outcome, AllocError> {
+    let alloc = rt.alloc();
     let mut source = MemSource::new(
         Vec::from_slice(alloc, script)?,
         Vec::from_slice(alloc, source_fails)?,
     );
     let mut sink = MemSink::new(alloc, 1 << 20, Vec::from_slice(alloc, sink_fails)?)?;
-    let ended = xreflink(alloc, words, &mut source, &mut sink);
+    let ended = xreflink(rt, alloc, words, &mut source, &mut sink, disk);
     Ok(Outcome {
         status: ended.status,
         written: Vec::from_slice(alloc, sink.bytes())?,
     })
 }
 
-const ALL_FREE: &str = "free 512 1536\nfree 2560 1536\nfree 4608 1536\nfree 6656 1536\n";
+pub(crate) const ALL_FREE: &str = "free 512 1536\nfree 2560 1536\nfree 4608 1536\nfree 6656 1536\n";
 
 /// A name, a script and what is printed for it.
-const ROWS: [(&str, &str, &str); 10] = [
+const ROWS: [(&str, &str, &str); 14] = [
     ("empty input", "", ALL_FREE),
     (
         "comments and empty lines alone",
@@ -81,12 +90,32 @@ const ROWS: [(&str, &str, &str); 10] = [
         "remap 31 508 4 8188\nremap 31 508 4 8188\nremap 31 504 4 8184\n",
         "file 31 504 8 8184\nowner 8184 8 31 504\nfree 512 1536\nfree 2560 1536\nfree 4608 1536\nfree 6656 1528\n",
     ),
+    (
+        "a punch in the middle of an extent",
+        "remap 0 0 4 512\npunch 0 1 2\n",
+        "file 0 0 1 512\nfile 0 3 1 515\nowner 512 1 0 0\nowner 515 1 0 3\nfree 513 2\nfree 516 1532\nfree 2560 1536\nfree 4608 1536\nfree 6656 1536\n",
+    ),
+    (
+        "two files exchange their blocks",
+        "remap 0 0 2 512\nremap 1 8 2 2560\nexchange 0 0 1 8 2\n",
+        "file 0 0 2 2560\nfile 1 8 2 512\nowner 512 2 1 8\nowner 2560 2 0 0\nfree 514 1534\nfree 2562 1534\nfree 4608 1536\nfree 6656 1536\n",
+    ),
+    (
+        "blocks and holes change places, one each way",
+        "remap 0 0 1 512\nremap 1 5 1 600\nexchange 0 0 1 4 2\n",
+        "file 0 1 1 600\nfile 1 4 1 512\nowner 512 1 1 4\nowner 600 1 0 1\nfree 513 87\nfree 601 1447\nfree 2560 1536\nfree 4608 1536\nfree 6656 1536\n",
+    ),
+    (
+        "ranges of one file that touch, the later one first",
+        "remap 31 508 2 512\nexchange 31 510 31 508 2\n",
+        "file 31 510 2 512\nowner 512 2 31 510\nfree 514 1534\nfree 2560 1536\nfree 4608 1536\nfree 6656 1536\n",
+    ),
 ];
 
 #[test]
 fn prints_the_records(rt: HostRuntime) -> Result<(), Fail> {
     for (name, script, wanted) in ROWS {
-        let outcome = outcome_of(rt.alloc(), &["expect"], script.as_bytes(), &[], &[])?;
+        let outcome = outcome_of(&rt, no_disk(&rt)?, &["expect"], script.as_bytes(), &[], &[])?;
         assert_eq!(rt; outcome.status, 0, "{name}");
         assert_eq!(rt; outcome.written.as_slice(), wanted.as_bytes(), "{name}");
     }
@@ -94,7 +123,7 @@ fn prints_the_records(rt: HostRuntime) -> Result<(), Fail> {
 }
 
 /// Scripts with a bad line, and its number.
-const BAD_SCRIPTS: [(&str, &str); 15] = [
+const BAD_SCRIPTS: [(&str, &str); 21] = [
     ("remap 0 0 1", "line 1\n"),
     ("remap 0 0 1 512 1\n", "line 1\n"),
     ("\n# two\nremap 0 0 01 512\n", "line 3\n"),
@@ -104,7 +133,13 @@ const BAD_SCRIPTS: [(&str, &str); 15] = [
     (" remap 0 0 1 512\n", "line 1\n"),
     ("remap 0 0 1 512\r\n", "line 1\n"),
     ("remap 0 0 1 4294967808\n", "line 1\n"),
-    ("punch 0 0 1\n", "line 1\n"),
+    ("move 0 0 1\n", "line 1\n"),
+    ("punch 0 0 1 512\n", "line 1\n"),
+    ("punch 0 511 2\n", "line 1\n"),
+    ("exchange 0 0 1 0\n", "line 1\n"),
+    ("exchange 0 0 32 0 1\n", "line 1\n"),
+    ("exchange 0 0 1 511 2\n", "line 1\n"),
+    ("exchange 0 0 0 1 2\n", "line 1\n"),
     ("remap 32 0 1 512\n", "line 1\n"),
     ("remap 0 0 0 512\n", "line 1\n"),
     ("remap 0 511 2 512\n", "line 1\n"),
@@ -115,7 +150,7 @@ const BAD_SCRIPTS: [(&str, &str); 15] = [
 #[test]
 fn names_the_first_bad_line(rt: HostRuntime) -> Result<(), Fail> {
     for (script, wanted) in BAD_SCRIPTS {
-        let outcome = outcome_of(rt.alloc(), &["expect"], script.as_bytes(), &[], &[])?;
+        let outcome = outcome_of(&rt, no_disk(&rt)?, &["expect"], script.as_bytes(), &[], &[])?;
         assert_eq!(rt; outcome.status, 3, "{script:?}");
         assert_eq!(rt; outcome.written.as_slice(), wanted.as_bytes(), "{script:?}");
     }
@@ -136,7 +171,8 @@ const FAULTS: [(&[&str], &[u64], &[u64], u8, &str); 6] = [
 fn ends_with_the_faults_of_the_outside(rt: HostRuntime) -> Result<(), Fail> {
     for (words, source_fails, sink_fails, status, wanted) in FAULTS {
         let outcome = outcome_of(
-            rt.alloc(),
+            &rt,
+            no_disk(&rt)?,
             words,
             b"remap 0 0 1 512\n",
             source_fails,

@@ -5,3 +5,5 @@
 mod base;
 #[cfg(test)]
 mod expect;
+#[cfg(test)]
+mod image;

@@ -1,13 +1,14 @@
-//! The program: it hands the words of the command line, standard input and standard output to the call that does the
-//! rest, and ends with the status that this gives.
+//! The program: it hands the words of the command line, standard input, standard output and the image to the call that
+//! does the rest, and ends with the status that this gives.
 #![tactic(auto)]
 
 use std::alloc::{AllocError, Global};
 use std::env::Env;
 use std::process::ExitCode;
+use std::rt::Files;
 use std::{env, io};
-use xr_cmd::{Ended, without_memory, xreflink};
-use xr_disk::{StdSink, StdSource};
+use xr_cmd::{without_memory, xreflink};
+use xr_disk::{FileDisk, StdSink, StdSource};
 
 /// The words after the program's name. There are none where one of them is no text, so that no command takes them.
 fn words<R: Env + AllocGlobal>(rt: &R) -> Result<Vec<String>, AllocError> {
@@ -24,18 +25,36 @@ fn words<R: Env + AllocGlobal>(rt: &R) -> Result<Vec<String>, AllocError> {
     }
 }
 
-fn run<R: Env + AllocGlobal + Input + Print>(rt: &R, alloc: Global) -> Result<Ended, AllocError> {
-    let words = words(rt)?;
-    let words: Vec<&str> = words.iter().map(|word| word.as_str()).collect(alloc)?;
-    let mut script = StdSource::new(rt.reader());
-    let mut out = StdSink::new(io::writer(rt));
-    Ok(xreflink(alloc, &words, &mut script, &mut out))
+/// The disk over the file that the second word names. Only a command that formats makes one that is missing.
+fn disk<R: Files + Clone + Drop>(
+    rt: &R,
+    alloc: Global,
+    words: &[&str],
+) -> Result<FileDisk<R>, AllocError> {
+    let (path, create) = match words {
+        [command, path, ..] => (*path, *command == "mkfs"),
+        _ => ("", false),
+    };
+    Ok(FileDisk::new(rt.clone()?, String::from_str(alloc, path)?, create))
+}
+
+fn borrowed(alloc: Global, words: &[String]) -> Result<Vec<&str>, AllocError> {
+    words.iter().map(|word| word.as_str()).collect(alloc)
 }
 
 fn main(rt: HostRuntime) -> ExitCode {
-    let ended = match run(&rt, rt.alloc()) {
-        Ok(ended) => ended,
-        Err(_) => without_memory(&mut StdSink::new(io::writer(&rt))),
+    let alloc = rt.alloc();
+    let mut out = StdSink::new(io::writer(&rt));
+    let Ok(words) = words(&rt) else {
+        return ExitCode::from(without_memory(&mut out));
     };
+    let Ok(words) = borrowed(alloc, &words) else {
+        return ExitCode::from(without_memory(&mut out));
+    };
+    let Ok(disk) = disk(&rt, alloc, &words) else {
+        return ExitCode::from(without_memory(&mut out));
+    };
+    let mut script = StdSource::new(rt.reader());
+    let ended = xreflink(&rt, alloc, &words, &mut script, &mut out, disk);
     ExitCode::from(ended.status)
 }

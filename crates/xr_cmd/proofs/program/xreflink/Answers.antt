@@ -4,11 +4,11 @@ use Rattle.xr_cmd.proofs.program.xreflink.Goals as goal
 
 pub returns-clause-ends : goal.returns-clause-ends
 returns-clause-ends g c = record {
-  said = c.answer_to.result.said;
-  text = cow_str_bytes c.answer_to.result.text;
-  says = c.answer_to.ensures.says;
+  said = c.answer_to-answer.result.said;
+  text = cow_str_bytes c.answer_to-answer.result.text;
+  says = c.answer_to-answer.ensures.says;
   finishes = c.finish.ensures.ends;
 }
 
 pub returns-clause-read_to_end : goal.returns-clause-read_to_end
-returns-clause-read_to_end g c = λ zero. c.answer_to.ensures.end (said_done _ _ _ _ _ _ c.finish.ensures.ends zero)
+returns-clause-read_to_end g c = λ asked zero. c.answer_to-answer.ensures.read_to_end asked (said_done _ _ _ _ _ _ c.finish.ensures.ends zero)

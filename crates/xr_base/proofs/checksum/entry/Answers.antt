@@ -1,0 +1,5 @@
+use Rattle.xr_base.proofs.TableEntries.{entry_is}
+use Rattle.xr_base.proofs.checksum.entry.Goals as goal
+
+pub returns : goal.returns
+returns c = entry_is c.args.table c.requires.table c.args.byte c.requires.byte

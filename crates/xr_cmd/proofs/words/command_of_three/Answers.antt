@@ -1,0 +1,5 @@
+use Rattle.xr_cmd.proofs.WordLemmas.{mkfs_command}
+use Rattle.xr_cmd.proofs.words.command_of_three.Goals as goal
+
+pub returns-in-mkfs : goal.returns-in-mkfs
+returns-in-mkfs c = mkfs_command _ _ _ _ c.in-mkfs.is c.mkfs_of.ensures

@@ -1,0 +1,44 @@
+-- Which images are fresh, and where one stops being so.
+use Rattle.std.specs.Prelude.{◌≡◌, ℕ, ◌+◌, ◌<◌, ◌≤◌, ◌==◌, if◌then◌else◌, Option, Some, List, length, drop}
+use Rattle.byteorder.specs.Endian.{big_number}
+use Rattle.xr_base.specs.Image.{block_of}
+use Rattle.xr_base.specs.declared.geometry.TheConstants.{FIRST_LOG_BLOCK}
+use Rattle.xr_headers.specs.declared.layout.TheConstants.{UUID_BYTES, CYCLES}
+use Rattle.xr_headers.specs.FreshImage.{fresh_block_of, fresh_image}
+
+-- the blocks from `first` to below `end` are those of a fresh image
+abbrev pub HasFreshBlocks : List ℕ → ℕ → ℕ → ℕ → List ℕ → Type 0
+HasFreshBlocks uuid cycle first «end» image = (k : ℕ) → first ≤ k → k < «end» → block_of image k ≡ fresh_block_of uuid cycle k
+
+-- an identifier and a cycle with which an image can be made
+pub record AreOfImage (uuid : List ℕ) (cycle : ℕ) : Type 0 where
+  pub uuid_bytes : length uuid ≡ UUID_BYTES
+  pub some_cycle : 1 ≤ cycle
+  pub last_cycle : cycle < CYCLES
+
+-- the image is fresh
+pub record IsFreshImage (image : List ℕ) : Type 0 where
+  pub uuid : List ℕ
+  pub cycle : ℕ
+  pub are : AreOfImage uuid cycle
+  pub image_is : image ≡ fresh_image uuid cycle
+
+-- its first n blocks are those of some fresh image
+pub record IsFreshUpTo (image : List ℕ) (n : ℕ) : Type 0 where
+  pub uuid : List ℕ
+  pub cycle : ℕ
+  pub are : AreOfImage uuid cycle
+  pub blocks : HasFreshBlocks uuid cycle 0 n image
+
+-- the first block that keeps the image from being fresh
+pub record IsFirstForeign (image : List ℕ) (n : ℕ) : Type 0 where
+  pub before : IsFreshUpTo image n
+  pub here : ¬ IsFreshUpTo image (n + 1)
+
+-- what the disk read was an image with P, where it told
+abbrev pub WasSeen : Option (List ℕ) → (List ℕ → Type 0) → Type 0
+WasSeen seen P = (image : List ℕ) → seen ≡ Some image → P image
+
+-- the cycle after a block was read: only the log's first block tells it
+abbrev pub cycle_after : ℕ → List ℕ → ℕ → ℕ
+cycle_after n bytes cycle = if n == FIRST_LOG_BLOCK then big_number 4 (drop 4 bytes) else cycle

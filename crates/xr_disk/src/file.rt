@@ -1,0 +1,216 @@
+//! A disk over a file. It counts its calls and faults, and tells nothing of what the file holds.
+ghost use Rattle.std.specs.Prelude.{◌≡◌, ◌+◌, ◌*◌, ◌-◌, ◌^◌, ◌≤◌, ◌<◌, ℕ, Some, List, length, min, IsErr, IsOk, OnOk, OnErr, MatchResult};
+ghost use Rattle.xr_base.specs.Cause.{Rose};
+ghost use Rattle.xr_base.specs.Image.{part, overlaid};
+ghost use Rattle.xr_base.specs.declared.geometry.TheConstants.{SECTOR_BYTES, SECTORS};
+ghost use Rattle.xr_disk.specs.Crash.{Crash, IsSectorRange};
+ghost use Rattle.xr_disk.specs.Disk.{IsAtRest, IsSame, IsCall, MayTear};
+ghost use Rattle.xr_disk.specs.FileDisk.{untold, nothing_seen};
+ghost use Rattle.xr_disk.specs.FileDiskView.{file_view};
+ghost use Rattle.xr_disk.specs.Plan.{next_count};
+
+use crate::Disk;
+use std::fs::{OpenFile, OpenOptions};
+use std::io::{ErrorKind, Read, Seek, SeekFrom, Write};
+use std::rt::Files;
+use xr_base::Fault;
+use xr_base::geometry::SECTOR_BYTES;
+
+/// A disk over the file at a path, which is opened for reading and writing at the first call. Bytes past the file's end
+/// read as zeros. Whatever goes wrong is a fault.
+#[derive(Drop)]
+pub struct FileDisk<R: Files + Drop> {
+    file: LazyFile<R>,
+    moment: u64,
+    faults: u64,
+}
+
+impl<R: Files + Drop> FileDisk<R> {
+    /// A disk over the file at the path, which is made where it is missing only if `create` is true.
+    pub fn new(rt: R, path: String, create: bool) -> FileDisk<R>
+        ensures moment { (file_view result).moment ≡ 0 }
+        ensures faults { (file_view result).faults ≡ 0 }
+    {
+        FileDisk {
+            file: LazyFile {
+                rt,
+                path,
+                create,
+                file: None,
+            },
+            moment: 0,
+            faults: 0,
+        }
+    }
+}
+
+impl<R: Files + Drop> Disk for FileDisk<R> {
+    ghost view = { λ d. untold d.moment d.faults };
+
+    ghost seen_may_stay = { λ d s seen. nothing_seen d.moment d.faults s seen };
+
+    ghost counts_now = { λ d t c within left. left };
+
+    ghost only_now = { λ d c left. left };
+
+    ghost narrows = { λ d t u c earlier left. left };
+
+    ghost sized = { λ d c left. absurd left };
+
+    fn read(&mut self, at: u32, out: &mut [u8]) -> Result<(), Fault> {
+        tick(&mut self.moment, &mut self.faults)?;
+        let outcome = self.file.read_at(at, out);
+        counted(&mut self.faults, outcome)
+    }
+
+    fn write(&mut self, at: u32, bytes: &[u8]) -> Result<(), Fault> {
+        tick(&mut self.moment, &mut self.faults)?;
+        let outcome = self.file.write_at(at, bytes);
+        counted(&mut self.faults, outcome)
+    }
+
+    /// Syncs the file's contents and length to its device.
+    fn sync(&mut self) -> Result<(), Fault> {
+        tick(&mut self.moment, &mut self.faults)?;
+        let outcome = self.file.sync();
+        counted(&mut self.faults, outcome)
+    }
+
+    fn moment(&self) -> u64 {
+        self.moment
+    }
+
+    fn faults(&self) -> u64 {
+        self.faults
+    }
+}
+
+/// Moves the clock on. At its end the call is a fault.
+fn tick(moment: &mut u64, faults: &mut u64) -> Result<(), Fault>
+    ensures ok { OnOk result ((moment.old < 2 ^ 64 - 1) × (moment.new ≡ moment.old + 1) × (faults.new ≡ faults.old)) }
+    ensures err { OnErr result ((moment.old ≡ 2 ^ 64 - 1) × (moment.new ≡ moment.old) × (faults.new ≡ next_count faults.old)) }
+    ensures clock { moment.new ≡ min (moment.old + 1) (2 ^ 64 - 1) }
+    ensures kept { faults.old ≤ faults.new }
+{
+    match moment.checked_add(1) {
+        Some(next) => {
+            *moment = next;
+            Ok(())
+        }
+        None => {
+            *faults = faults.saturating_add(1);
+            Err(Fault)
+        }
+    }
+}
+
+/// Counts a fault where the outcome is one.
+fn counted(faults: &mut u64, outcome: Result<(), Fault>) -> Result<(), Fault>
+    ensures same { result ≡ outcome }
+    ensures ok { OnOk result (faults.new ≡ faults.old) }
+    ensures err { OnErr result (faults.new ≡ next_count faults.old) }
+    ensures kept { faults.old ≤ faults.new }
+{
+    if outcome.is_err() {
+        *faults = faults.saturating_add(1);
+    }
+    outcome
+}
+
+/// A file that is opened when it is first needed.
+#[derive(Drop)]
+struct LazyFile<R: Files + Drop> {
+    rt: R,
+    path: String,
+    create: bool,
+    file: Option<R::File>,
+}
+
+impl<R: Files + Drop> LazyFile<R> {
+    fn open(&mut self) -> Result<(), Fault> {
+        if self.file.is_none() {
+            let mut options = OpenOptions::new();
+            options.read(true).write(true).create(self.create);
+            match options.open(&self.rt, self.path.as_str()) {
+                Ok(file) => self.file = Some(file),
+                Err(_) => return Err(Fault),
+            }
+        }
+        Ok(())
+    }
+
+    fn read_at(&mut self, at: u32, out: &mut [u8]) -> Result<(), Fault> {
+        self.open()?;
+        match &mut self.file {
+            Some(file) => {
+                seek(file, at)?;
+                read_all(file, out)
+            }
+            None => Err(Fault),
+        }
+    }
+
+    fn write_at(&mut self, at: u32, bytes: &[u8]) -> Result<(), Fault> {
+        self.open()?;
+        match &mut self.file {
+            Some(file) => {
+                seek(file, at)?;
+                write_all(file, bytes)
+            }
+            None => Err(Fault),
+        }
+    }
+
+    fn sync(&mut self) -> Result<(), Fault> {
+        self.open()?;
+        match &self.file {
+            Some(file) => file.sync_all().map_err(|_| Fault),
+            None => Err(Fault),
+        }
+    }
+}
+
+/// Goes to a sector of the file.
+fn seek<F: Seek>(file: &mut F, at: u32) -> Result<(), Fault> {
+    match file.seek(SeekFrom::Start(SECTOR_BYTES as u64 * u64::from(at))) {
+        Ok(_) => Ok(()),
+        Err(_) => Err(Fault),
+    }
+}
+
+/// Fills the buffer, with zeros where the file has ended.
+fn read_all<F: Read>(file: &mut F, out: &mut [u8]) -> Result<(), Fault> {
+    let mut filled = 0;
+    for _ in 0..u64::MAX {
+        if filled == out.len() {
+            return Ok(());
+        }
+        match file.read(&mut out[filled..]) {
+            Ok(0) => {
+                out[filled..].fill(0);
+                return Ok(());
+            }
+            Ok(n) => filled += n,
+            Err(error) if error.kind() == ErrorKind::Interrupted => {}
+            Err(_) => return Err(Fault),
+        }
+    }
+    Err(Fault)
+}
+
+/// Writes all the bytes.
+fn write_all<F: Write>(file: &mut F, bytes: &[u8]) -> Result<(), Fault> {
+    let mut written = 0;
+    for _ in 0..u64::MAX {
+        if written == bytes.len() {
+            return Ok(());
+        }
+        match file.write(&bytes[written..]) {
+            Ok(0) => return Err(Fault),
+            Ok(n) => written += n,
+            Err(error) if error.kind() == ErrorKind::Interrupted => {}
+            Err(_) => return Err(Fault),
+        }
+    }
+    Err(Fault)
+}

@@ -1,0 +1,83 @@
+-- The parts of sealed bytes, and when bytes are those that were sealed.
+use Rattle.std.proofs.Common.{◌≡◌, ℕ, ◌+◌, ◌-◌, ◌<◌, ◌≤◌, List, [], ◌++◌, length, take, drop, get_or, refl, sym, ap, ◌∙◌, arith}
+use Rattle.std.proofs.lemmas.List.{append_assoc, length-take-le, take_at, drop_at, take-append-drop, drop-drop, drop_all, ext_get_or, get_or-take}
+use Rattle.byteorder.specs.Endian.{little_bytes}
+use Rattle.xr_base.specs.Checksum.{checksum_of, without_four}
+use Rattle.xr_base.specs.Image.{part}
+use Rattle.xr_headers.specs.Sealed.{padded, sealed, IsLaid}
+use Rattle.xr_headers.specs.SealedLaws.{length-padded}
+use Rattle.xr_headers.proofs.Padding.{get_or-padded, padded-padded}
+
+abbrev pub sum_at : ℕ → List ℕ → List ℕ
+sum_at at bytes = little_bytes 4 (checksum_of (without_four at bytes))
+
+-- sealing overwrites what stood at the checksum's place
+pub sealed_same : (at : ℕ) (xs ys : List ℕ) → take at xs ≡ take at ys → drop (at + 4) xs ≡ drop (at + 4) ys → sealed at xs ≡ sealed at ys
+unfolding sealed
+sealed_same at xs ys before after = rw (before, after) refl
+
+pub take-sealed : (at : ℕ) (bytes : List ℕ) → at + 4 ≤ length bytes → take at (sealed at bytes) ≡ take at bytes
+unfolding sealed
+take-sealed at bytes fits =
+    ap (take at) (append_assoc (take at bytes) (sum_at at bytes) (drop (at + 4) bytes))
+    ∙ take_at (take at bytes) (sum_at at bytes ++ drop (at + 4) bytes) at (length-take-le at bytes (omega arith))
+
+drop_to : (at : ℕ) (bytes : List ℕ) → at + 4 ≤ length bytes → drop at (sealed at bytes) ≡ sum_at at bytes ++ drop (at + 4) bytes
+unfolding sealed
+drop_to at bytes fits =
+    ap (drop at) (append_assoc (take at bytes) (sum_at at bytes) (drop (at + 4) bytes))
+    ∙ drop_at (take at bytes) (sum_at at bytes ++ drop (at + 4) bytes) at (length-take-le at bytes (omega arith))
+
+pub drop-sealed : (at : ℕ) (bytes : List ℕ) → at + 4 ≤ length bytes → drop (at + 4) (sealed at bytes) ≡ drop (at + 4) bytes
+drop-sealed at bytes fits = sym (drop-drop 4 at (sealed at bytes)) ∙ ap (drop 4) (drop_to at bytes fits)
+
+pub sealed-sealed : (at : ℕ) (bytes : List ℕ) → at + 4 ≤ length bytes → sealed at (sealed at bytes) ≡ sealed at bytes
+sealed-sealed at bytes fits = sealed_same at (sealed at bytes) bytes (take-sealed at bytes fits) (drop-sealed at bytes fits)
+
+-- bytes are sealed exactly where their checksum is right
+pub sealed_from_sum : (at : ℕ) (bytes : List ℕ) → part at 4 bytes ≡ sum_at at bytes → bytes ≡ sealed at bytes
+unfolding sealed
+sealed_from_sum at bytes right =
+    sym (take-append-drop at bytes)
+    ∙ ap (λ (rest : List ℕ). take at bytes ++ rest)
+    (sym (take-append-drop 4 (drop at bytes)) ∙ ap (λ (rest : List ℕ). part at 4 bytes ++ rest) (drop-drop 4 at bytes)
+    ∙ ap (λ (sum : List ℕ). sum ++ drop (at + 4) bytes) right)
+    ∙ sym (append_assoc (take at bytes) (sum_at at bytes) (drop (at + 4) bytes))
+
+pub sum_from_sealed : (at : ℕ) (bytes : List ℕ) → at + 4 ≤ length bytes → bytes ≡ sealed at bytes → part at 4 bytes ≡ sum_at at bytes
+sum_from_sealed at bytes fits right = ap (part at 4) right ∙ ap (take 4) (drop_to at bytes fits)
+
+-- A header is right exactly where its checksum is, and each byte before the checksum is the wanted one.
+pub right_from_tests : (at n : ℕ) (bytes wanted : List ℕ) → at + 4 ≡ n → length bytes ≡ n → bytes ≡ sealed at bytes
+    → ((k : ℕ) → k < length (take at bytes) → get_or (take at bytes) k 0 ≡ get_or wanted k 0) → bytes ≡ sealed at (padded n wanted)
+right_from_tests at n bytes wanted end long right same =
+    let other : List ℕ = padded n wanted in
+    let long_other = length-padded n wanted in
+    let none : drop (at + 4) bytes ≡ [] = drop_all (at + 4) bytes (omega arith) in
+    let none_other : drop (at + 4) other ≡ [] = drop_all (at + 4) other (omega arith) in
+    let cut = length-take-le at bytes (omega arith) in
+    let front : take at bytes ≡ take at other =
+    ext_get_or 0 (take at bytes) (take at other) (cut ∙ sym (length-take-le at other (omega arith)))
+    (λ (k : ℕ) (below : k < length (take at bytes)).
+    same k below ∙ sym (get_or-padded n wanted k (omega arith)) ∙ sym (get_or-take at other k 0 (omega arith))) in
+    right ∙ sealed_same at bytes other front (none ∙ sym none_other)
+
+pub tests_from_right : (at n : ℕ) (bytes wanted : List ℕ) → at + 4 ≡ n → bytes ≡ sealed at (padded n wanted)
+    → (bytes ≡ sealed at bytes) × ((k : ℕ) → k < length (take at bytes) → get_or (take at bytes) k 0 ≡ get_or wanted k 0)
+tests_from_right at n bytes wanted end right =
+    let other : List ℕ = padded n wanted in
+    let long_other = length-padded n wanted in
+    let fits : at + 4 ≤ length other = omega arith in
+    let front : take at bytes ≡ take at other = ap (take at) right ∙ take-sealed at other fits in
+    let cut : length (take at bytes) ≡ at = ap length front ∙ length-take-le at other (omega arith) in (
+      right ∙ sym (ap (sealed at) right ∙ sealed-sealed at other fits),
+      λ (k : ℕ) (below : k < length (take at bytes)).
+          ap (λ (xs : List ℕ). get_or xs k 0) front ∙ get_or-take at other k 0 (omega arith) ∙ get_or-padded n wanted k (omega arith),
+    )
+
+-- a header's fields alone are compared with its block
+pub wanted_is : (n at k : ℕ) (bytes fields wanted : List ℕ) → length bytes ≡ n → at + 4 ≡ n → k ≤ n → IsLaid k k fields wanted
+    → sealed (length bytes - 4) (padded (length bytes) wanted) ≡ sealed at (padded n fields)
+wanted_is n at k bytes fields wanted long end fits laid =
+    let place : n - 4 ≡ at = omega arith in
+    rw (long, place, laid.is) (ap (sealed at) (padded-padded k n fields (omega (arith, laid.long)) fits))

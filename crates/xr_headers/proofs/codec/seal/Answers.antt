@@ -1,0 +1,7 @@
+use Rattle.xr_headers.specs.Sealed.{sealed}
+use Rattle.xr_headers.proofs.codec.seal.Goals as goal
+use Rattle.std.proofs.Common.{refl}
+
+pub returns : goal.returns
+unfolding sealed
+returns c = rw c.put_bytes.ensures (rw c.sum_bytes-sum.ensures refl)

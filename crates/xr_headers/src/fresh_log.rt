@@ -1,0 +1,44 @@
+//! The first block of a fresh log, which holds one record: the log is at rest.
+ghost use Rattle.std.specs.Prelude.{◌≡◌, length};
+ghost use Rattle.xr_headers.specs.FreshImage.{fresh_log_block, unmount_fields};
+ghost use Rattle.xr_headers.specs.Sealed.{IsLaid};
+
+use crate::codec::{clear, put_first_lsn, put_uuid, put_words, seal};
+use crate::layout::{
+    MISSING, RECORD_FORMAT, RECORD_MAGIC, RECORD_SEAL, RECORD_SIZE, RECORD_VERSION, UNMOUNT_BYTES,
+    UNMOUNT_CLIENT, UNMOUNT_DATA, UNMOUNT_MAGIC,
+};
+use uuid::Uuid;
+use xr_base::geometry::{BLOCK_BYTES, SECTOR_BYTES};
+
+fn lay_record(uuid: &Uuid, cycle: u32, out: &mut [u8])
+    requires { length out.old ≡ BLOCK_BYTES }
+    ensures { IsLaid (length out.old) 532 (unmount_fields uuid.now cycle) out.new }
+{
+    clear(out);
+    put_words(
+        out,
+        0,
+        &[RECORD_MAGIC, cycle, RECORD_VERSION, UNMOUNT_BYTES],
+    );
+    put_first_lsn(out, 16, cycle);
+    put_first_lsn(out, 24, cycle);
+    put_words(out, 32, &[0, MISSING, 1]);
+    put_words(out, 300, &[RECORD_FORMAT]);
+    put_uuid(out, 304, uuid);
+    put_words(out, 320, &[RECORD_SIZE]);
+    put_words(
+        out,
+        SECTOR_BYTES,
+        &[cycle, UNMOUNT_DATA, UNMOUNT_CLIENT, UNMOUNT_MAGIC, 0],
+    );
+}
+
+/// Writes the log's first block.
+pub(crate) fn put_fresh_log(uuid: &Uuid, cycle: u32, out: &mut [u8])
+    requires { length out.old ≡ BLOCK_BYTES }
+    ensures { out.new ≡ fresh_log_block uuid.now cycle }
+{
+    lay_record(uuid, cycle, out);
+    seal(&mut out[..2 * SECTOR_BYTES], RECORD_SEAL);
+}
