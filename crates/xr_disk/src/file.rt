@@ -6,7 +6,7 @@ ghost use Rattle.xr_base.specs.declared.geometry.TheConstants.{SECTOR_BYTES, SEC
 ghost use Rattle.xr_disk.specs.Crash.{Crash, IsSectorRange};
 ghost use Rattle.xr_disk.specs.Disk.{IsAtRest, IsSame, IsCall, MayTear};
 ghost use Rattle.xr_disk.specs.FileDisk.{untold, nothing_seen};
-ghost use Rattle.xr_disk.specs.FileDiskView.{file_view};
+ghost use Rattle.xr_disk.specs.FileDiskView.{file_view, runtime_of, path_of, makes_file};
 ghost use Rattle.xr_disk.specs.Plan.{next_count};
 
 use crate::Disk;
@@ -30,6 +30,9 @@ impl<R: Files + Drop> FileDisk<R> {
     pub fn new(rt: R, path: String, create: bool) -> FileDisk<R>
         ensures moment { (file_view result).moment ≡ 0 }
         ensures faults { (file_view result).faults ≡ 0 }
+        ensures runtime { runtime_of result ≡ rt }
+        ensures path { path_of result ≡ path }
+        ensures create { makes_file result ≡ create }
     {
         FileDisk {
             file: LazyFile {

@@ -1,0 +1,10 @@
+pub mod Kept
+pub mod Lsn
+pub mod Operations
+pub mod Packing
+pub mod Reading
+pub mod Record
+pub mod Rules
+pub mod Stream
+pub mod StreamLaws
+pub mod Unsealing

@@ -1,0 +1,53 @@
+//! The fields of a record's header, each at its place.
+ghost use Rattle.std.specs.Prelude.{◌≡◌, ◌+◌, ◌≤◌, ◌++◌, length, take, drop};
+ghost use Rattle.byteorder.specs.Endian.{big_bytes};
+ghost use Rattle.xr_record.specs.Record.{fields_before, fields_after};
+
+use crate::bytes::{put, put_word};
+use crate::head::Head;
+use crate::layout::{
+    CHECKSUM_PLACE, CYCLE_PLACE, FORMAT, FORMAT_PLACE, LEN_PLACE, LSN_PLACE, MAGIC,
+    MOST_BODY_BYTES, OPS_PLACE, PREV_PLACE, SIZE_PLACE, TAIL_PLACE, UUID_PLACE, VERSION,
+    VERSION_PLACE, WORDS_PLACE, ZEROS_BYTES, ZEROS_PLACE,
+};
+
+/// Writes the fields before the words. The one of the checksum is zero.
+fn put_fields_before(header: &mut [u8], head: &Head)
+    requires { 44 ≤ length header.old }
+    ensures front { take 44 header.new ≡ fields_before head.now 0 }
+    ensures rest { drop 44 header.new ≡ drop 44 header.old }
+{
+    put_word(header, 0, MAGIC);
+    put_word(header, CYCLE_PLACE, head.lsn.cycle);
+    put_word(header, VERSION_PLACE, VERSION);
+    put_word(header, LEN_PLACE, head.len);
+    put_word(header, LSN_PLACE, head.lsn.cycle);
+    put_word(header, LSN_PLACE + 4, head.lsn.sector);
+    put_word(header, TAIL_PLACE, head.tail.cycle);
+    put_word(header, TAIL_PLACE + 4, head.tail.sector);
+    put_word(header, CHECKSUM_PLACE, 0);
+    put_word(header, PREV_PLACE, head.prev);
+    put_word(header, OPS_PLACE, head.ops);
+}
+
+/// Writes the fields after the words.
+fn put_fields_after(header: &mut [u8], head: &Head)
+    requires { length header.old ≡ 512 }
+    ensures { header.new ≡ take 300 header.old ++ fields_after head.now }
+{
+    put_word(header, FORMAT_PLACE, FORMAT);
+    put(header, UUID_PLACE, head.uuid.as_bytes());
+    put_word(header, SIZE_PLACE, MOST_BODY_BYTES as u32);
+    put(header, ZEROS_PLACE, &[0; ZEROS_BYTES]);
+}
+
+/// Writes a header with these words. Its checksum is zero.
+pub fn put_header(header: &mut [u8], head: &Head, words: &[u8])
+    requires room { length header.old ≡ 512 }
+    requires words { length words.now ≡ 256 }
+    ensures { header.new ≡ fields_before head.now 0 ++ words.now ++ fields_after head.now }
+{
+    put_fields_before(header, head);
+    put(header, WORDS_PLACE, words);
+    put_fields_after(header, head);
+}

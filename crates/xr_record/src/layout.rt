@@ -1,0 +1,95 @@
+//! The numbers of the formats of records and operations, each named once for code and specs ("XFS Algorithms and Data
+//! Structures", 3rd edition, Log Record and Log Operations).
+
+/// `h_magicno`: how a record begins.
+pub const MAGIC: u32 = 0xFEED_BABE;
+
+/// `h_version`: the one kind of record here.
+pub const VERSION: u32 = 2;
+
+/// `h_fmt`: how the machine that wrote the record orders bytes.
+pub const FORMAT: u32 = 1;
+
+/// The most bytes that a body has, which is also what every header says in `h_size`.
+pub const MOST_BODY_BYTES: usize = 32_768;
+
+/// One more than the greatest cycle of a record.
+pub const CYCLES: u32 = 4_000_000_000;
+
+/// Where the header's fields stand. The magic is at the front.
+pub const CYCLE_PLACE: usize = 4;
+
+pub const VERSION_PLACE: usize = 8;
+
+pub const LEN_PLACE: usize = 12;
+
+pub const LSN_PLACE: usize = 16;
+
+pub const TAIL_PLACE: usize = 24;
+
+pub const CHECKSUM_PLACE: usize = 32;
+
+pub const PREV_PLACE: usize = 36;
+
+pub const OPS_PLACE: usize = 40;
+
+pub const WORDS_PLACE: usize = 44;
+
+pub const FORMAT_PLACE: usize = 300;
+
+pub const UUID_PLACE: usize = 304;
+
+pub const SIZE_PLACE: usize = 320;
+
+pub const ZEROS_PLACE: usize = 324;
+
+/// The bytes of the words, `h_cycle_data`, with room for the first word of each sector of the longest body.
+pub const WORDS_BYTES: usize = 256;
+
+/// The zeros at the header's end.
+pub const ZEROS_BYTES: usize = 188;
+
+/// The bytes of an operation's header.
+pub const OPERATION_BYTES: usize = 12;
+
+/// `oh_clientid` of an operation of a transaction.
+pub const TRANSACTION_CLIENT: u8 = 0x69;
+
+/// `oh_clientid` of an operation of the log itself.
+pub const LOG_CLIENT: u8 = 0xAA;
+
+/// The flag in `oh_flags` of an operation that begins a transaction.
+pub const START: u8 = 0x01;
+
+/// The flag of an operation that ends a transaction.
+pub const COMMIT: u8 = 0x02;
+
+/// The flag of a part of a region whose next part follows in the next record.
+pub const CONTINUE: u8 = 0x04;
+
+/// The flag of a part of a region whose first part stands in a record before.
+pub const WAS_CONTINUED: u8 = 0x08;
+
+/// The flag of a region's last part.
+pub const END: u8 = 0x10;
+
+/// The flags of a part of a region that is neither its first nor its last.
+pub const MIDDLE_FLAGS: u8 = CONTINUE | WAS_CONTINUED;
+
+/// The flags of the last part of a region that was cut.
+pub const LAST_FLAGS: u8 = WAS_CONTINUED | END;
+
+/// The flag of the operation that marks a clean unmount.
+pub const UNMOUNT: u8 = 0x20;
+
+/// The body of the operation that marks a clean unmount.
+pub const UNMOUNT_BODY: [u8; 8] = [0x6E, 0x55, 0, 0, 0, 0, 0, 0];
+
+/// The most bytes of a region.
+pub const MOST_REGION_BYTES: usize = 4096;
+
+/// `th_magic`: how a transaction's header begins.
+pub const TRANSACTION_MAGIC: u32 = 0x5452_414E;
+
+/// `th_type`: the one type of transaction.
+pub const TRANSACTION_TYPE: u32 = 40;

@@ -1,0 +1,231 @@
+//! Reading a sealed record back, or refusing it by its first broken rule.
+ghost use Rattle.std.specs.Prelude.{◌≡◌, ◌+◌, ◌*◌, ◌≤◌, ◌<◌, ◌^◌, ◌%◌, ◌↔◌, ℕ, List, IsTrue, IfOk, IfErr, Ok, OnErr, length, take, drop};
+ghost use Rattle.byteorder.specs.Endian.{big_bytes};
+ghost use Rattle.xr_base.specs.declared.geometry.TheConstants.{SECTOR_BYTES};
+ghost use Rattle.xr_record.specs.declared.head.Head.{Head};
+ghost use Rattle.xr_record.specs.Operations.{AreBytes};
+ghost use Rattle.xr_record.specs.Record.{IsSealed, sectors_of};
+ghost use Rattle.xr_record.specs.Unsealing.{HasChecksum, HasLength, HasMagic, HasStamps, HasVersion, HasZeros, IsHere, IsInPlace, IsPadded, IsPlaced, IsRefusal, Opens, checksum_in, head_in, opened, word_at};
+
+use crate::bytes::is_zero;
+use crate::head::{Head, Lsn};
+use crate::layout::{
+    CHECKSUM_PLACE, CYCLE_PLACE, CYCLES, FORMAT, FORMAT_PLACE, LEN_PLACE, LSN_PLACE, MAGIC,
+    MOST_BODY_BYTES, OPS_PLACE, PREV_PLACE, SIZE_PLACE, TAIL_PLACE, UUID_PLACE, VERSION,
+    VERSION_PLACE, WORDS_BYTES, WORDS_PLACE, ZEROS_PLACE,
+};
+use crate::sealing::sectors_of;
+use crate::words::{restore, stamp};
+use byteorder::{BigEndian, ByteOrder, LittleEndian};
+use thiserror::Error;
+use uuid::Uuid;
+use xr_base::crc32c_without;
+use xr_base::geometry::{LOG_SECTORS, SECTOR_BYTES};
+
+/// Why the bytes at a sector aren't a sealed record of that sector: the first rule, in this order, that is broken.
+#[derive(Clone, Copy, Debug, PartialEq, Eq, Error)]
+pub enum SealFault {
+    /// They don't begin as a record does.
+    #[error("no record begins at sector {sector}")]
+    Magic { sector: u32 },
+    /// The record is of another version, format or size.
+    #[error("the record at sector {sector} is of another kind")]
+    Version { sector: u32 },
+    /// The body is empty or too long, or the bytes end before it does.
+    #[error("the record at sector {sector} has a bad length")]
+    Length { sector: u32 },
+    /// The checksum is another.
+    #[error("the record at sector {sector} has a bad checksum")]
+    Checksum { sector: u32 },
+    /// The record names another sector, no sector of the log or a bad cycle, a sector of the body doesn't begin with the
+    /// cycle, the tail comes after the record, or a byte that has to be zero isn't.
+    #[error("the record at sector {sector} isn't of that place")]
+    Place { sector: u32 },
+}
+
+fn word_at(bytes: &[u8], place: usize) -> u32
+    requires { place + 4 ≤ length bytes.now }
+    ensures { result ≡ word_at place bytes.now }
+{
+    BigEndian::read_u32(&bytes[place..])
+}
+
+fn lsn_in(bytes: &[u8], place: usize) -> Lsn
+    requires { place + 8 ≤ length bytes.now }
+    ensures cycle { result.cycle ≡ word_at place bytes.now }
+    ensures sector { result.sector ≡ word_at (place + 4) bytes.now }
+{
+    Lsn {
+        cycle: word_at(bytes, place),
+        sector: word_at(bytes, place + 4),
+    }
+}
+
+fn uuid_in(bytes: &[u8], place: usize) -> Uuid
+    requires { place + 16 ≤ length bytes.now }
+    ensures { result ≡ take 16 (drop place bytes.now) }
+{
+    let mut uuid = [0; 16];
+    uuid.copy_from_slice(&bytes[place..place + 16]);
+    Uuid::from_bytes(uuid)
+}
+
+/// The values that a header holds.
+fn head_in(bytes: &[u8]) -> Head
+    requires { SECTOR_BYTES ≤ length bytes.now }
+    ensures values { result ≡ head_in bytes.now }
+    ensures small { AreBytes bytes.now }
+{
+    Head {
+        lsn: lsn_in(bytes, LSN_PLACE),
+        tail: lsn_in(bytes, TAIL_PLACE),
+        prev: word_at(bytes, PREV_PLACE),
+        ops: word_at(bytes, OPS_PLACE),
+        len: word_at(bytes, LEN_PLACE),
+        uuid: uuid_in(bytes, UUID_PLACE),
+    }
+}
+
+fn has_version(bytes: &[u8]) -> bool
+    requires { SECTOR_BYTES ≤ length bytes.now }
+    ensures { IsTrue result ↔ HasVersion bytes.now }
+{
+    word_at(bytes, VERSION_PLACE) == VERSION
+        && word_at(bytes, FORMAT_PLACE) == FORMAT
+        && word_at(bytes, SIZE_PLACE) == MOST_BODY_BYTES as u32
+}
+
+fn has_length(bytes: &[u8]) -> bool
+    requires { SECTOR_BYTES ≤ length bytes.now }
+    ensures { IsTrue result ↔ HasLength bytes.now }
+{
+    let len = word_at(bytes, LEN_PLACE);
+    len > 0
+        && len <= MOST_BODY_BYTES as u32
+        && SECTOR_BYTES + SECTOR_BYTES * sectors_of(len) <= bytes.len()
+}
+
+fn has_checksum(bytes: &[u8]) -> bool
+    requires room { SECTOR_BYTES ≤ length bytes.now }
+    requires length { HasLength bytes.now }
+    ensures checksum { IsTrue result ↔ HasChecksum bytes.now }
+    ensures fits { checksum_in bytes.now < 2 ^ 32 }
+{
+    let total = SECTOR_BYTES + SECTOR_BYTES * sectors_of(word_at(bytes, LEN_PLACE));
+    LittleEndian::read_u32(&bytes[CHECKSUM_PLACE..])
+        == crc32c_without(&bytes[..total], CHECKSUM_PLACE)
+}
+
+fn has_stamp(body: &[u8], i: usize, cycle: u32) -> bool
+    requires { SECTOR_BYTES * i + SECTOR_BYTES ≤ length body.now }
+    ensures { IsTrue result ↔ (take 4 (drop (SECTOR_BYTES * i) body.now) ≡ big_bytes 4 cycle) }
+{
+    word_at(body, SECTOR_BYTES * i) == cycle
+}
+
+/// Whether each of the first sectors begins with the cycle.
+fn has_stamps(body: &[u8], sectors: usize, cycle: u32) -> bool
+    requires { SECTOR_BYTES * sectors ≤ length body.now }
+    ensures { IsTrue result ↔ HasStamps cycle sectors body.now }
+{
+    for i in 0..sectors {
+        if !has_stamp(body, i, cycle) {
+            return false;
+        }
+    }
+    true
+}
+
+/// Whether the header says that the record is that of the sector.
+fn is_here(bytes: &[u8], sector: u32) -> bool
+    requires { SECTOR_BYTES ≤ length bytes.now }
+    ensures { IsTrue result ↔ IsHere sector bytes.now }
+{
+    let head = head_in(bytes);
+    head.lsn.sector == sector
+        && sector < LOG_SECTORS
+        && word_at(bytes, CYCLE_PLACE) == head.lsn.cycle
+        && head.lsn.cycle > 0
+        && head.lsn.cycle < CYCLES
+        && head.tail.number() <= head.lsn.number()
+}
+
+/// Whether the header is zero where it holds nothing.
+fn has_zeros(bytes: &[u8], sectors: usize) -> bool
+    requires room { SECTOR_BYTES ≤ length bytes.now }
+    requires words { 4 * sectors ≤ WORDS_BYTES }
+    ensures { IsTrue result ↔ HasZeros sectors bytes.now }
+{
+    is_zero(&bytes[WORDS_PLACE + 4 * sectors..FORMAT_PLACE])
+        && is_zero(&bytes[ZEROS_PLACE..SECTOR_BYTES])
+}
+
+/// Whether the record is that of the sector, but for what follows its body.
+fn is_placed(bytes: &[u8], sector: u32) -> bool
+    requires room { SECTOR_BYTES ≤ length bytes.now }
+    requires length { HasLength bytes.now }
+    ensures { IsTrue result ↔ IsPlaced sector bytes.now }
+{
+    let sectors = sectors_of(word_at(bytes, LEN_PLACE));
+    let cycle = word_at(bytes, LSN_PLACE);
+    if !is_here(bytes, sector) {
+        return false;
+    }
+    if !has_stamps(&bytes[SECTOR_BYTES..], sectors, cycle) {
+        return false;
+    }
+    has_zeros(bytes, sectors)
+}
+
+/// Puts the first words of the body's sectors back, and says whether zeros follow the body. Where they don't the bytes are
+/// as they were.
+fn open(bytes: &mut [u8], len: u32, cycle: u32) -> bool
+    requires room { SECTOR_BYTES + SECTOR_BYTES * sectors_of len ≤ length bytes.old }
+    requires len { len ≤ MOST_BODY_BYTES }
+    requires stamps { HasStamps cycle (sectors_of len) (drop SECTOR_BYTES bytes.old) }
+    ensures padded { IsTrue result ↔ IsPadded len bytes.old }
+    ensures opened { IsTrue result → bytes.new ≡ opened len bytes.old }
+    ensures unchanged { (IsTrue result → ⊥) → bytes.new ≡ bytes.old }
+{
+    let sectors = sectors_of(len);
+    let (header, body) = bytes.split_at_mut(SECTOR_BYTES);
+    restore(&header[WORDS_PLACE..FORMAT_PLACE], body, sectors);
+    if is_zero(&body[len as usize..SECTOR_BYTES * sectors]) {
+        return true;
+    }
+    stamp(&mut [0; WORDS_BYTES], body, sectors, cycle);
+    false
+}
+
+/// The header of the sealed record that the bytes begin with, where that is one of this sector. The first word of each
+/// sector of its body is then put back in its place ("XFS Algorithms and Data Structures", 3rd edition, Log Record).
+pub fn unseal(bytes: &mut [u8], sector: u32) -> Result<Head, SealFault>
+    requires whole { length bytes.old % SECTOR_BYTES ≡ 0 }
+    requires some { SECTOR_BYTES ≤ length bytes.old }
+    requires most { length bytes.old ≤ SECTOR_BYTES + MOST_BODY_BYTES }
+    ensures opened { IfOk result (Opens sector bytes.old bytes.new) }
+    ensures every { (head : Head) (body : List ℕ) → IsSealed bytes.old head body → head.lsn.sector ≡ sector → result ≡ Ok head }
+    ensures refused { IfErr result (IsRefusal sector bytes.old) }
+    ensures unchanged { OnErr result (bytes.new ≡ bytes.old) }
+{
+    if word_at(bytes, 0) != MAGIC {
+        return Err(SealFault::Magic { sector });
+    }
+    if !has_version(bytes) {
+        return Err(SealFault::Version { sector });
+    }
+    if !has_length(bytes) {
+        return Err(SealFault::Length { sector });
+    }
+    if !has_checksum(bytes) {
+        return Err(SealFault::Checksum { sector });
+    }
+    if !is_placed(bytes, sector) {
+        return Err(SealFault::Place { sector });
+    }
+    let head = head_in(bytes);
+    if !open(bytes, head.len, head.lsn.cycle) {
+        return Err(SealFault::Place { sector });
+    }
+    Ok(head)
+}
