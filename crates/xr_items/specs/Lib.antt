@@ -1,0 +1,5 @@
+pub mod Fields
+pub mod Items
+pub mod Valid
+pub mod FirstBroken
+pub mod Transactions
