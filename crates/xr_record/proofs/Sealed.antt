@@ -150,6 +150,19 @@ sealed_head bytes head body s =
     (ap (word_at 40) e ∙ big_number-reads_back 4 head.ops [] s.stored.ops)
     (sealed_len bytes head body s) uuid
 
+-- with its words put back the record holds its body
+pub sealed_body : (bytes : List ℕ) (head : Head) (body : List ℕ) → (s : IsSealed bytes head body) → body_in head.len bytes ≡ padded body ++ s.rest
+sealed_body bytes head body s =
+    let n = count head in
+    let q = padded body in
+    let lq = length-padded head body s.length_is in
+    let rest = stamped (stamp head) n q ++ s.rest in
+    let at_words : part 44 256 bytes ≡ words head body =
+    ap (λ (xs : List ℕ). take 256 (drop 44 xs)) (front bytes head body s) ∙ take_at (words head body) (fields_after head ++ rest) 256 (length-words head body s.length_is s.good.fits) in
+    rw (at_words, past_header bytes head body s)
+    (restored-append n (words head body) (stamped (stamp head) n q) s.rest (omega (arith, length-stamped n (stamp head) q refl (omega arith)))
+    ∙ ap (λ (xs : List ℕ). xs ++ s.rest) (restored-stamped n (stamp head) q (zeros (256 - 4 * n)) refl (omega arith)))
+
 pub sealed_place : (sector : ℕ) (bytes : List ℕ) (head : Head) (body : List ℕ) → IsSealed bytes head body → head.lsn.sector ≡ sector → IsInPlace sector bytes
 sealed_place sector bytes head body s here =
     let e = front bytes head body s in
@@ -157,7 +170,6 @@ sealed_place sector bytes head body s here =
     let n = count head in
     let q = padded body in
     let lq = length-padded head body s.length_is in
-    let lw = length-words head body s.length_is s.good.fits in
     let rest = stamped (stamp head) n q ++ s.rest in
     let cycle : word_at 16 bytes ≡ head.lsn.cycle = ap (λ (h : Head). h.lsn.cycle) same in
     let len : word_at 12 bytes ≡ head.len = sealed_len bytes head body s in
@@ -179,12 +191,7 @@ sealed_place sector bytes head body s here =
     ap (take 188) (sym (drop-drop 24 300 bytes) ∙ ap (drop 24) (past_words bytes head body s) ∙ ap (drop 20) (append_assoc u (zeros 188) rest)
     ∙ drop_at u (zeros 188 ++ rest) 20 (omega (arith, length-append head.uuid (big_bytes 4 MOST_BODY_BYTES), s.stored.uuid)))
     ∙ take_at (zeros 188) rest 188 (length-zeros 188) in
-    let at_words : part 44 256 bytes ≡ words head body =
-    ap (λ (xs : List ℕ). take 256 (drop 44 xs)) e ∙ take_at (words head body) (fields_after head ++ rest) 256 lw in
-    let back : body_in head.len bytes ≡ q ++ s.rest =
-    rw (at_words, past_header bytes head body s)
-    (restored-append n (words head body) (stamped (stamp head) n q) s.rest (omega (arith, length-stamped n (stamp head) q refl (omega arith)))
-    ∙ ap (λ (xs : List ℕ). xs ++ s.rest) (restored-stamped n (stamp head) q (zeros (256 - 4 * n)) refl (omega arith))) in
+    let back = sealed_body bytes head body s in
     let tail = zeros (512 * n - head.len) in
     let pad : slice_range (body_in head.len bytes) head.len (512 * n) ≡ tail =
     let q_is : q ≡ body ++ tail = ap (λ (l : ℕ). body ++ zeros (512 * sectors_of l - l)) s.length_is in
