@@ -78,14 +78,14 @@ refuses_not_done : (failure : Failure) (text : List ℕ) → ¬ Refuses failure 
 refuses_not_done (BadLine number) text refuses = refuses
 refuses_not_done SourceFailed text refuses = refuses
 refuses_not_done DiskFailed text refuses = refuses
-refuses_not_done (ForeignBlock block) text refuses = refuses
+refuses_not_done (ForeignBlock block cause) text refuses = refuses
 refuses_not_done NoMemory text refuses = refuses
 
 refuses_not_words : (failure : Failure) (text : List ℕ) → ¬ Refuses failure Words text
 refuses_not_words (BadLine number) text refuses = refuses
 refuses_not_words SourceFailed text refuses = refuses
 refuses_not_words DiskFailed text refuses = refuses
-refuses_not_words (ForeignBlock block) text refuses = refuses
+refuses_not_words (ForeignBlock block cause) text refuses = refuses
 refuses_not_words NoMemory text refuses = refuses
 
 pub says_refused : (words : List (List ℕ)) (left : Option (List ℕ)) (Failed : Type 0) (old new : DiskView) (said : Status) (text : List ℕ)

@@ -4,6 +4,7 @@ pub mod Lines
 pub mod MakingLemmas
 pub mod NumberWords
 pub mod PrintedLists
+pub mod PrintedLogs
 pub mod Putting
 pub mod Reading
 pub mod StepLines

@@ -9,9 +9,10 @@ use Rattle.xr_cmd.specs.declared.program.Status.{Status}
 use Rattle.xr_cmd.specs.declared.program.Status.TheVariants.{Done, Words, Line, Source, Sink, Disk, Foreign, Memory}
 use Rattle.xr_cmd.specs.declared.program.TheConstants.{FIRST_CYCLE}
 use Rattle.xr_cmd.specs.declared.words.Command.{Command}
-use Rattle.xr_cmd.specs.declared.words.Command.TheVariants.{Expect, Mkfs, Show}
+use Rattle.xr_cmd.specs.declared.words.Command.TheVariants.{Expect, Mkfs, Show, ShowLog}
 use Rattle.xr_cmd.specs.Expect.{Expects, IsTextOfPart}
-use Rattle.xr_cmd.specs.Failures.{WasLeft, HasFailure}
+use Rattle.xr_cmd.specs.Failures.{WasLeft, HasFailure, number_of}
+use Rattle.xr_cmd.specs.ShowLog.{ShowsLog}
 use Rattle.xr_cmd.specs.Fresh.{IsFreshImage, WasSeen}
 use Rattle.xr_cmd.specs.RecordText.{words_text, bad_line_text, source_text, disk_text, foreign_text, memory_text, made_text}
 use Rattle.xr_cmd.specs.Streams.{PutsAll, PutsSomeFront}
@@ -39,6 +40,7 @@ abbrev pub DoneWith : Option (List ℕ) → DiskView → DiskView → Command �
 DoneWith left old new Expect text = ExpectsOf left text
 DoneWith left old new (Mkfs uuid) text = WasSeen old.seen (λ _. IsAtRest (fresh_image uuid FIRST_CYCLE) new) × (text ≡ made_text uuid)
 DoneWith left old new (Show part) text = WasSeen old.seen IsFreshImage × IsTextOfPart part no_maps text
+DoneWith left old new ShowLog text = ShowsLog old.seen text
 
 -- the answer to a failure: its own line, or the one for want of memory, which a line with a number may meet too
 abbrev pub Refuses : Failure → Status → List ℕ → Type 0
@@ -46,8 +48,8 @@ Refuses (BadLine number) Line text = text ≡ bad_line_text number
 Refuses (BadLine number) Memory text = text ≡ memory_text
 Refuses SourceFailed Source text = text ≡ source_text
 Refuses DiskFailed Disk text = text ≡ disk_text
-Refuses (ForeignBlock block) Foreign text = text ≡ foreign_text block 12
-Refuses (ForeignBlock block) Memory text = text ≡ memory_text
+Refuses (ForeignBlock block cause) Foreign text = text ≡ foreign_text block (number_of cause)
+Refuses (ForeignBlock block cause) Memory text = text ≡ memory_text
 Refuses NoMemory Memory text = text ≡ memory_text
 Refuses _ _ text = ⊥
 

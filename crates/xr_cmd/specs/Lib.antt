@@ -2,10 +2,12 @@ pub mod Answer
 pub mod Expect
 pub mod Failures
 pub mod Fresh
+pub mod LogText
 pub mod Making
 pub mod RecordText
 pub mod Script
 pub mod ScriptLaws
+pub mod ShowLog
 pub mod Streams
 pub mod Text
 pub mod Words

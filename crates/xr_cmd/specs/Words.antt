@@ -3,7 +3,7 @@ use Rattle.std.specs.Prelude.{◌≡◌, ℕ, List, [], ◌∷◌, map, codes, S
 use Rattle.std.specs.Borrow.{Bor}
 use Rattle.uuid.specs.Text.{parsed}
 use Rattle.xr_cmd.specs.declared.words.Command.{Command}
-use Rattle.xr_cmd.specs.declared.words.Command.TheVariants.{Expect, Mkfs, Show}
+use Rattle.xr_cmd.specs.declared.words.Command.TheVariants.{Expect, Mkfs, Show, ShowLog}
 use Rattle.xr_cmd.specs.declared.words.Part.{Part}
 use Rattle.xr_cmd.specs.declared.words.Part.TheVariants.{Files, Free}
 
@@ -26,7 +26,8 @@ abbrev pub name_of : Part → List ℕ
 name_of Files = codes "files"
 name_of Free = codes "free"
 
--- the words after `mkfs` are an image and a text of the identifier, and those after `show` an image and the part's name
+-- the words after `mkfs` are an image and a text of the identifier, and those after `show` an image and the part's name,
+-- or `log`
 pub record IsMkfs (image text uuid : List ℕ) : Type 0 where
   pub names_image : IsImage image
   pub parses : parsed text ≡ Some uuid
@@ -35,11 +36,22 @@ pub record IsShow (image word : List ℕ) (part : Part) : Type 0 where
   pub names_image : IsImage image
   pub name : word ≡ name_of part
 
+pub record IsShowLog (image word : List ℕ) : Type 0 where
+  pub names_image : IsImage image
+  pub name : word ≡ codes "log"
+
+-- the words after `show` ask for the command
+abbrev pub IsShowOf : List ℕ → List ℕ → Command → Type 0
+IsShowOf image word (Show part) = IsShow image word part
+IsShowOf image word ShowLog = IsShowLog image word
+IsShowOf image word _ = ⊥
+
 -- the words ask for the command
 abbrev pub IsCommand : List (List ℕ) → Command → Type 0
 IsCommand words Expect = words ≡ codes "expect" ∷ []
 IsCommand words (Mkfs uuid) = (image : List ℕ) × (text : List ℕ) × IsMkfs image text uuid × (words ≡ codes "mkfs" ∷ image ∷ text ∷ [])
 IsCommand words (Show part) = (image : List ℕ) × (name : List ℕ) × IsShow image name part × (words ≡ codes "show" ∷ image ∷ name ∷ [])
+IsCommand words ShowLog = (image : List ℕ) × (name : List ℕ) × IsShowLog image name × (words ≡ codes "show" ∷ image ∷ name ∷ [])
 
 -- they ask for none
 abbrev pub IsNoCommand : List (List ℕ) → Type 0
@@ -54,13 +66,16 @@ abbrev pub ReadsNoScript : Command → Type 0
 ReadsNoScript Expect = ⊥
 ReadsNoScript (Mkfs uuid) = Unit {0}
 ReadsNoScript (Show part) = Unit {0}
+ReadsNoScript ShowLog = Unit {0}
 
 abbrev pub UsesNoDisk : Command → Type 0
 UsesNoDisk Expect = Unit {0}
 UsesNoDisk (Mkfs uuid) = ⊥
 UsesNoDisk (Show part) = ⊥
+UsesNoDisk ShowLog = ⊥
 
 abbrev pub ReadsDisk : Command → Type 0
 ReadsDisk Expect = ⊥
 ReadsDisk (Mkfs uuid) = ⊥
 ReadsDisk (Show part) = Unit {0}
+ReadsDisk ShowLog = Unit {0}

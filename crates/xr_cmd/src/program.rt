@@ -14,9 +14,10 @@ ghost use Rattle.xr_cmd.specs.Streams.{StaysWithin};
 ghost use Rattle.xr_cmd.specs.Words.{AsksOnly, IsCommand, ReadsDisk, ReadsNoScript, UsesNoDisk, texts_of};
 
 use crate::expect::{expect, part_text};
-use crate::failure::Failure;
+use crate::failure::{Cause, Failure};
 use crate::fresh::first_foreign;
 use crate::making::mkfs;
+use crate::show_log::show_log;
 use crate::streams::put_all;
 use crate::text::{
     DISK_LINE, MEMORY_LINE, SOURCE_LINE, WORDS_LINE, bad_line, foreign_line, made_line,
@@ -110,7 +111,9 @@ fn refusal(alloc: Global, failure: Failure) -> Answer
         Failure::BadLine(number) => written(Status::Line, bad_line(alloc, number)),
         Failure::SourceFailed => fixed(Status::Source, SOURCE_LINE),
         Failure::DiskFailed => fixed(Status::Disk, DISK_LINE),
-        Failure::ForeignBlock(block) => written(Status::Foreign, foreign_line(alloc, block, 12)),
+        Failure::ForeignBlock { block, cause } => {
+            written(Status::Foreign, foreign_line(alloc, block, cause.number()))
+        }
         Failure::NoMemory => fixed(Status::Memory, MEMORY_LINE),
     }
 }
@@ -134,7 +137,10 @@ fn show<D: Disk>(alloc: Global, disk: &mut D, part: Part) -> Result<String, Fail
     ensures count { (D.view disk.old).faults ≤ (D.view disk.new).faults }
 {
     match first_foreign(disk)? {
-        Some(block) => Err(Failure::ForeignBlock(block)),
+        Some(block) => {
+            let cause = Cause::Header;
+            Err(Failure::ForeignBlock { block, cause })
+        }
         None => Ok(part_text(alloc, &Maps::new(alloc)?, part)?),
     }
 }
@@ -160,6 +166,7 @@ fn perform<D: Disk, I: Source>(
         Command::Expect => expect(alloc, script),
         Command::Mkfs { uuid } => format(alloc, disk, uuid),
         Command::Show { part } => show(alloc, disk, *part),
+        Command::ShowLog => show_log(alloc, disk),
     }
 }
 

@@ -1,7 +1,8 @@
 //! The words of the command line: which lists of words are commands.
 ghost use Rattle.std.specs.Prelude.{◌≡◌, ◌≢◌, ◌↔◌, ℕ, List, [], ◌∷◌, IsTrue, MatchOption};
-ghost use Rattle.xr_cmd.specs.Words.{IsCommand, IsNoCommand, IsImage, IsMkfs, IsPlain, IsShow, name_of, texts_of};
-ghost use Rattle.xr_cmd.specs.declared.words.Command.TheVariants.{Mkfs, Show};
+ghost use Rattle.xr_cmd.specs.Words.{IsCommand, IsNoCommand, IsImage, IsMkfs, IsPlain, IsShowOf, name_of, texts_of};
+ghost use Rattle.xr_cmd.specs.declared.words.Command.{Command};
+ghost use Rattle.xr_cmd.specs.declared.words.Command.TheVariants.{Mkfs};
 ghost use Rattle.xr_cmd.specs.declared.words.Part.{Part};
 
 use uuid::Uuid;
@@ -24,6 +25,8 @@ pub enum Command {
     Mkfs { uuid: Uuid },
     /// Prints a part of an image.
     Show { part: Part },
+    /// Prints the live stream of an image's log.
+    ShowLog,
 }
 
 /// Whether the word doesn't begin as an option would.
@@ -64,12 +67,15 @@ fn mkfs_of(image: &str, uuid: &str) -> Option<Command>
     }
 }
 
-/// The command that shows a part of an image.
+/// The command that shows a part of an image, or its log.
 fn show_of(image: &str, part: &str) -> Option<Command>
-    ensures { MatchOption result ((shown : Part) → ¬ IsShow image.now part.now shown) (λ command. (shown : Part) × (command ≡ Show shown) × IsShow image.now part.now shown) }
+    ensures { MatchOption result ((command : Command) → ¬ IsShowOf image.now part.now command) (IsShowOf image.now part.now) }
 {
     if !is_image(image) {
         return None;
+    }
+    if part == "log" {
+        return Some(Command::ShowLog);
     }
     match part_of(part) {
         Some(part) => Some(Command::Show { part }),

@@ -70,7 +70,8 @@ pub enum Work {
 }
 
 impl OwnKind {
-    pub(crate) fn code(self) -> u32
+    /// The number by which the kind stands in an item's flags.
+    pub fn code(self) -> u32
         ensures { result ≡ own_code self }
     {
         match self {
@@ -97,7 +98,8 @@ impl OwnKind {
 }
 
 impl CountKind {
-    pub(crate) fn code(self) -> u32
+    /// The number by which the kind stands in an item's flags.
+    pub fn code(self) -> u32
         ensures { result ≡ count_code self }
     {
         match self {
@@ -122,7 +124,8 @@ impl CountKind {
 }
 
 impl MapKind {
-    pub(crate) fn code(self) -> u32
+    /// The number by which the kind stands in an item's flags.
+    pub fn code(self) -> u32
         ensures { result ≡ map_code self }
     {
         match self {

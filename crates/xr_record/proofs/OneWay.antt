@@ -41,7 +41,7 @@ run : Open → List Operation → List Piece × Open
 run o [] = ([], o)
 run o (op ∷ ops) = ((after_op o op).0 ++ (run (after_op o op).1 ops).0, (run (after_op o op).1 ops).1)
 
-abbrev op_fields : Operation → Fields
+abbrev pub op_fields : Operation → Fields
 op_fields op = record { tid = op.tid; len = length op.body; client = client_of op.sort; flags = flags_of op.sort; zeros = 0 }
 
 -- an operation that breaks no rule where this is open
@@ -234,14 +234,14 @@ made : (op : Operation) (tid len : ℕ) → tid ≡ op.tid → len ≡ length op
     → (let f : Fields = record { tid = tid; len = len; client = client_of op.sort; flags = flags_of op.sort; zeros = 0 } in f ≡ op_fields op)
 made op tid len p q = rw (p, q) refl
 
-fields_of_op : (op : Operation) (t : List ℕ) → op.tid < 2 ^ 32 → length op.body < 2 ^ 32 → fields (operation_bytes op ++ t) ≡ op_fields op
+pub fields_of_op : (op : Operation) (t : List ℕ) → op.tid < 2 ^ 32 → length op.body < 2 ^ 32 → fields (operation_bytes op ++ t) ≡ op_fields op
 unfolding bytes_of
 fields_of_op op t h k =
     let tid = big_number-reads_back 4 op.tid [] h in
     let len = big_number-reads_back 4 (length op.body) [] k in
     made op (big_number 4 (operation_bytes op ++ t)) (big_number 4 (drop 4 (operation_bytes op ++ t))) tid len
 
-length_op : (op : Operation) → length (operation_bytes op) ≡ 12 + length op.body
+pub length_op : (op : Operation) → length (operation_bytes op) ≡ 12 + length op.body
 unfolding bytes_of
 length_op op = omega arith
 
@@ -362,3 +362,16 @@ bad_in_one_way bytes place other kind another b c =
     let breaks : Breaks (state_of b.o) b.rest another = subst (λ (w : Open). Breaks (state_of w) b.rest another) (sym same.1) (subst (λ (xs : List ℕ). Breaks (state_of c.o) xs another) (sym same.2) c.breaks) in
     let lens : length b.rest ≡ length c.rest = ap length same.2 in
     (omega (arith, b.place_is, c.place_is), one_kind (state_of b.o) b.rest kind another b.breaks breaks)
+
+-- its header has room for an operation's number and length
+pub record IsStorable (op : Operation) : Type 0 where
+  pub tid : op.tid < 2 ^ 32
+  pub len : length op.body < 2 ^ 32
+
+right_storable : (o : Open) (ops : List Operation) → AreRight o ops → AllByRecursion IsStorable ops
+unfolding AreRight
+right_storable o [] right = tt
+right_storable o (op ∷ ops) right = (record { tid = right.0.tid; len = right.0.len }, right_storable (after_op o op).1 ops right.1)
+
+pub pieces_storable : (ps : List Piece) → AllByRecursion IsPiece ps → AllByRecursion IsStorable (flat_map operations ps)
+pieces_storable ps all = right_storable Between (flat_map operations ps) (goes_pieces ps all).right

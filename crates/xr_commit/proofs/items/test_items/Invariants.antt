@@ -1,0 +1,5 @@
+use Rattle.xr_commit.proofs.EntryLoop.{IsItemLoop}
+use Rattle.xr_commit.proofs.items.test_items.Given as goal
+
+abbrev pub invariant-loop-entry : goal.invariant-loop-entry
+invariant-loop-entry l = IsItemLoop l.uuid l.entries l.entry-index l.last l.before

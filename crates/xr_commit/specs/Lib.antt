@@ -1,0 +1,16 @@
+pub mod Chain
+pub mod Following
+pub mod Entries
+pub mod LoggedItems
+pub mod LiveItems
+pub mod LiveStream
+pub mod LogRecords
+pub mod Operations
+pub mod Refusals
+pub mod Seen
+pub mod Walking
+pub mod Testing
+pub mod LiveLaws
+pub mod Done
+pub mod ItemsOf
+pub mod Pending

@@ -1,0 +1,28 @@
+-- What a pass over live records in log order comes to.
+use Rattle.std.specs.Prelude.{◌≡◌, ℕ, ◌++◌, List, [], ◌∷◌, All}
+use Rattle.xr_record.specs.declared.entry.Entry.{Entry}
+use Rattle.xr_record.specs.declared.head.Head.{Head}
+use Rattle.xr_record.specs.Reading.{Reading, Reads}
+use Rattle.xr_commit.specs.Entries.{joined_bodies}
+use Rattle.xr_commit.specs.LogRecords.{LogRecord, StandsAt}
+use Rattle.xr_commit.specs.Operations.{HoldsOperations}
+use Rattle.xr_commit.specs.Refusals.{IsWrongAfter}
+
+-- a record in the log has this header
+pub record IsIn (log : List ℕ) (head : Head) (r : LogRecord) : Type 0 where
+  pub stands : StandsAt log head.lsn.sector r
+  pub head_is : r.head ≡ head
+
+-- these records were read: each is whole operations, and the reader has these entries of them
+pub record HasRead (records : List LogRecord) (entries : List Entry) (reader : Reading) : Type 0 where
+  pub each : All HoldsOperations records
+  pub reads : Reads (joined_bodies records) entries reader
+
+-- whatever was read before, with this record it is read on
+abbrev pub ReadsRecord : LogRecord → Reading → List Entry → Reading → List Entry → Type 0
+ReadsRecord r old old_entries new new_entries =
+    (before : List LogRecord) → HasRead before old_entries old → HasRead (before ++ r ∷ []) new_entries new
+
+-- or this record is the first one that is wrong
+abbrev pub IsWrongRecord : LogRecord → Reading → List Entry → Type 0
+IsWrongRecord r old old_entries = (before : List LogRecord) → HasRead before old_entries old → IsWrongAfter before r

@@ -1,0 +1,56 @@
+//! The live stream of a log: its records from the head's tail to the head, and their entries.
+ghost use Rattle.std.specs.Prelude.{◌≡◌, IfOk, IfErr, length};
+ghost use Rattle.xr_commit.specs.LiveStream.{IsLiveIn};
+ghost use Rattle.xr_commit.specs.Refusals.{OrNoMemory, RefusesLog};
+
+use crate::chain::follow;
+use crate::fault::{ScanFault, block_at};
+use crate::head::find_head;
+use crate::items::test_items;
+use crate::layout::{LOG_BYTES, MOST_RECORD_BYTES};
+use crate::room::has_room;
+use crate::stream::{read_entries, test_unmounts};
+use std::alloc::Global;
+use uuid::Uuid;
+use xr_base::geometry::FIRST_LOG_BLOCK;
+use xr_record::{Entry, Head};
+
+/// The live stream of an image ("XFS Algorithms and Data Structures", 3rd edition, Journaling Log).
+#[derive(Debug, Drop)]
+pub struct Live {
+    /// The image's identifier.
+    pub uuid: Uuid,
+    /// The headers of the records from the head's tail to the head, in log order.
+    pub heads: Vec<Head>,
+    /// What their bodies say, in log order. A transaction that isn't ended is none.
+    pub entries: Vec<Entry>,
+}
+
+/// The live stream of a log of an image with this identifier.
+pub fn live_in(alloc: Global, uuid: Uuid, log: &[u8]) -> Result<Live, ScanFault>
+    requires { length log.now ≡ LOG_BYTES }
+    ensures uuid { IfOk result (λ live. live.uuid ≡ uuid) }
+    ensures live { IfOk result (λ live. IsLiveIn uuid log.now live.heads.items live.entries.items) }
+    ensures refused { IfErr result (OrNoMemory (RefusesLog uuid log.now)) }
+{
+    let mut room = vec![in alloc; 0; MOST_RECORD_BYTES]?;
+    let Some(head) = find_head(&uuid, log, &mut room) else {
+        return Err(ScanFault::Magic {
+            block: FIRST_LOG_BLOCK,
+        });
+    };
+    let heads = follow(alloc, &uuid, log, &head, &mut room)?;
+    if !has_room(&head, &heads) {
+        return Err(ScanFault::Length {
+            block: block_at(head.lsn.sector),
+        });
+    }
+    test_unmounts(log, &heads, &mut room)?;
+    let entries = read_entries(alloc, log, &heads, &mut room)?;
+    test_items(&uuid, log, &heads, &entries, &mut room)?;
+    Ok(Live {
+        uuid,
+        heads,
+        entries,
+    })
+}
