@@ -8,14 +8,17 @@ use xr_cmd::xreflink;
 use xr_disk::{Call, Disk, FileDisk, MemDisk, MemSink, MemSource};
 
 /// Bytes of an image.
-const IMAGE_BYTES: usize = 36_732_928;
+pub(crate) const IMAGE_BYTES: usize = 36_732_928;
 
 /// Calls of `mkfs`: a write a block and one more, and three syncs.
 const MKFS_CALLS: u32 = 8972;
 
-const UUID: &str = "00000000-0000-4000-8000-000000000001";
+pub(crate) const UUID: &str = "00000000-0000-4000-8000-000000000001";
 
-fn no_script(alloc: Global) -> MemSource {
+/// What is printed of the log of a fresh image.
+const FRESH_LOG: &str = "record 1:0 1:0 20 1\nunmount\npending 0\n";
+
+pub(crate) fn no_script(alloc: Global) -> MemSource {
     MemSource::new(Vec::new(alloc), Vec::new(alloc))
 }
 
@@ -31,6 +34,7 @@ fn formats_and_shows(rt: HostRuntime) -> Result<(), Fail> {
         ),
         (["show", "IMG", "files"], ""),
         (["show", "IMG", "free"], ALL_FREE),
+        (["show", "IMG", "log"], FRESH_LOG),
     ] {
         let mut out = MemSink::new(alloc, 1 << 10, Vec::new(alloc))?;
         let ended = xreflink(
@@ -93,7 +97,7 @@ fn mkfs_ends_where_the_disk_stops(rt: HostRuntime) -> Result<(), Fail> {
 }
 
 /// Words without a disk behind them, the status and what is written.
-const WORDS: [(&[&str], u8, &str); 16] = [
+const WORDS: [(&[&str], u8, &str); 18] = [
     (&["mkfs", "IMG", "123"], 2, "words\n"),
     (&["mkfs", "IMG"], 2, "words\n"),
     (&["mkfs", "", UUID], 2, "words\n"),
@@ -101,6 +105,7 @@ const WORDS: [(&[&str], u8, &str); 16] = [
     (&["mkfs", "IMG", UUID, "keep"], 2, "words\n"),
     (&["show", "IMG"], 2, "words\n"),
     (&["show", "IMG", "owner"], 2, "words\n"),
+    (&["show", "", "log"], 2, "words\n"),
     (&["show", "-", "free"], 2, "words\n"),
     (&["Show", "IMG", "free"], 2, "words\n"),
     (&["mkfs", "IMG", UUID], 6, "disk\n"),
@@ -121,6 +126,7 @@ const WORDS: [(&[&str], u8, &str); 16] = [
     ),
     (&["show", "IMG", "free"], 6, "disk\n"),
     (&["show", "IMG", "files"], 6, "disk\n"),
+    (&["show", "IMG", "log"], 6, "disk\n"),
     (&["expect"], 0, ALL_FREE),
 ];
 
@@ -209,6 +215,12 @@ fn reads_and_writes_a_file(rt: HostRuntime) -> Result<(), Fail> {
     assert_eq!(rt; disk.read(71_743, &mut sector), Ok(()));
     assert_eq!(rt; &sector, &[0; 512]);
     assert_eq!(rt; (disk.moment(), disk.faults()), (5, 0));
+
+    // The superblock of so short a file is zeros.
+    let words = ["show", path.as_str(), "log"];
+    let outcome = outcome_of(&rt, disk, &words, b"", &[], &[])?;
+    assert_eq!(rt; outcome.status, 7);
+    assert_eq!(rt; outcome.written.as_slice(), b"foreign 0 12\n".as_slice());
     fs::remove_file(&rt, path.as_str())?;
     Ok(())
 }

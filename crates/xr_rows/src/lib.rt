@@ -7,3 +7,5 @@ mod base;
 mod expect;
 #[cfg(test)]
 mod image;
+#[cfg(test)]
+mod log;
