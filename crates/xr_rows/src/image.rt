@@ -18,7 +18,7 @@ pub(crate) const UUID: &str = "00000000-0000-4000-8000-000000000001";
 /// What is printed of the log of a fresh image.
 const FRESH_LOG: &str = "record 1:0 1:0 20 1\nunmount\npending 0\n";
 
-pub(crate) fn no_script(alloc: Global) -> MemSource {
+fn no_script(alloc: Global) -> MemSource {
     MemSource::new(Vec::new(alloc), Vec::new(alloc))
 }
 

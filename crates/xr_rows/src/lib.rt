@@ -9,3 +9,5 @@ mod expect;
 mod image;
 #[cfg(test)]
 mod log;
+#[cfg(test)]
+mod trees;

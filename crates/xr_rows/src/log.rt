@@ -2,14 +2,14 @@
 ghost use Rattle.std.specs.Prelude.{◌≡◌, length};
 ghost use Rattle.xr_record.specs.Record.{IsGoodHead};
 
-use crate::image::{IMAGE_BYTES, UUID, no_script};
+use crate::image::{IMAGE_BYTES, UUID};
 use std::alloc::{AllocError, Global};
 use std::process::Abort;
 use std::test::Fail;
 use uuid::Uuid;
 use xr_base::geometry::{BLOCK_BYTES, SECTOR_BYTES};
 use xr_cmd::{mkfs, xreflink};
-use xr_disk::{Disk, MemDisk, MemSink};
+use xr_disk::{Disk, MemDisk, MemSink, MemSource};
 use xr_headers::layout::CORE_BYTES;
 use xr_items::layout::LONGEST_REGION;
 use xr_items::{Item, put, take};
@@ -175,7 +175,8 @@ fn shows_an_item_of_each_kind(rt: HostRuntime) -> Result<(), Fail> {
     write_record(&rt, alloc, &mut disk, uuid)?;
     let mut out = MemSink::new(alloc, 1 << 10, Vec::new(alloc))?;
     let words = ["show", "IMG", "log"];
-    let ended = xreflink(&rt, alloc, &words, &mut no_script(alloc), &mut out, disk);
+    let mut none = MemSource::new(Vec::new(alloc), Vec::new(alloc));
+    let ended = xreflink(&rt, alloc, &words, &mut none, &mut out, disk);
     assert_eq!(rt; ended.status, 0);
     assert_eq!(rt; out.bytes(), printed(alloc)?.as_bytes());
     Ok(())

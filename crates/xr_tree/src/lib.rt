@@ -1,24 +1,36 @@
-//! The trees that hold a group's records and a file's extents: what one record is, and the blocks that a tree stands in.
+//! Trees over blocks: whether blocks are one, and what it holds.
 #![tactic(auto)]
 
-mod bits;
-mod free_runs;
-mod laws;
+mod block_test;
+mod bounds;
+mod cut;
+mod enter;
+mod key_test;
 mod leaf;
-mod mapping;
-mod marks;
-mod overlay;
-mod record;
-mod reference;
-mod reverse;
-mod span;
+mod ledger;
+mod ledger_last;
+mod ledger_reference;
+mod ledger_reverse;
+mod ledger_size;
+mod links;
+mod lookup;
+mod lookup_steps;
 #[cfg(test)]
-mod tests;
+mod lookup_tests;
+mod node;
+mod passed;
+mod reach;
+mod run_bits;
+mod tree;
+mod tree_fault;
+mod verify;
+#[cfg(test)]
+mod verify_tests;
 
-pub use free_runs::{ByBlock, BySize};
-pub use laws::{changes_follow, other_trees_stay};
-pub use mapping::Mapping;
-pub use overlay::Overlay;
-pub use record::Record;
-pub use reference::Reference;
-pub use reverse::{OWN_COW, Reverse};
+pub use bounds::{mapping_tree_fits, reverse_tree_fits};
+pub use tree::Tree;
+pub use tree_fault::{TreeFault, TreeKind};
+pub use xr_blocks::{
+    ByBlock, BySize, Mapping, OWN_COW, Overlay, Record, Reference, Reverse, changes_follow,
+    other_trees_stay,
+};

@@ -1,0 +1,14 @@
+use Rattle.std.proofs.Common.{true, refl}
+use Rattle.xr_blocks.specs.Tree.{tree_blocks}
+use Rattle.xr_tree.proofs.WholeTrees.{marked_of, others_of}
+use Rattle.xr_tree.proofs.tree.Tree.verify.Goals as goal
+
+pub returns-clause-marked : goal.returns-clause-marked
+returns-clause-marked g c = λ ok.
+    let h = c.in_ok-visit_root.ensures.marked (refl {a = true}) in
+    marked_of c.args.seen.now (tree_blocks g.R.Record.form c.args.over.now c.args.root c.args.level) c.visit_root.new.seen h
+
+pub returns-clause-others : goal.returns-clause-others
+returns-clause-others g c = λ ok.
+    let h = c.in_ok-visit_root.ensures.marked (refl {a = true}) in
+    others_of c.args.seen.now (tree_blocks g.R.Record.form c.args.over.now c.args.root c.args.level) c.visit_root.new.seen h
