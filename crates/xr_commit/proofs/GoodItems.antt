@@ -21,13 +21,18 @@ have_items uuid last [] last' good = ([], tt)
 have_items uuid last (Unmount ∷ entries) last' good = let rest = have_items uuid last entries last' good in ([] ∷ rest.0, (refl, rest.1))
 have_items uuid last (Trans tid regions ∷ entries) last' good =
     let own = good.1 in
-    let rest = have_items uuid good.0 entries last' good.2 in
-    (map (λ (l : Logged). l.item) own.logged ∷ rest.0, (record {
-      logged = own.logged;
-      items_are = refl;
-      valid = each_valid uuid last own.logged own.good;
-      regions_are = own.regions_are;
-    }, rest.1))
+    let rest = have_items uuid good.0 entries last' good.2 in (
+      map (λ (l : Logged). l.item) own.logged ∷ rest.0,
+      (
+        record {
+          logged = own.logged;
+          items_are = refl;
+          valid = each_valid uuid last own.logged own.good;
+          regions_are = own.regions_are;
+        },
+        rest.1,
+      ),
+    )
 
 pub live_items : (uuid log : List ℕ) (result : Result Live ScanFault) → IfOk result (λ live. IsLiveIn uuid log live.heads.items live.entries.items)
     → IfOk result (λ live. HaveItems live.entries.items)

@@ -14,12 +14,12 @@ mod logged;
 mod opening;
 mod operations;
 mod pending;
+#[cfg(test)]
+mod pending_tests;
 mod reading;
 mod room;
 mod scanning;
 mod stream;
-#[cfg(test)]
-mod pending_tests;
 #[cfg(test)]
 mod tests;
 
