@@ -21,6 +21,12 @@ const UNMOUNTED: &[u8] = &[
     0, 0, 0, 0, 0, 0, 0, 8, 0xAA, 0x20, 0, 0, 0x6E, 0x55, 0, 0, 0, 0, 0, 0,
 ];
 
+/// An unmount beside another.
+const IN_COMPANY: &[u8] = &[
+    0, 0, 0, 0, 0, 0, 0, 8, 0xAA, 0x20, 0, 0, 0x6E, 0x55, 0, 0, 0, 0, 0, 0, 0, 0, 0, 0, 0, 0, 0, 8,
+    0xAA, 0x20, 0, 0, 0x6E, 0x55, 0, 0, 0, 0, 0, 0,
+];
+
 /// A transaction of no items: a START, a header and a COMMIT.
 const EMPTY: &[u8] = &[
     0, 0, 0, 1, 0, 0, 0, 0, 0x69, 1, 0, 0, 0, 0, 0, 1, 0, 0, 0, 16, 0x69, 0, 0, 0, 0x4E, 0x41,
@@ -196,7 +202,7 @@ const ALONE: Head = Head {
 };
 
 /// The newest record's head and body, and the refusal. The first record has an empty transaction.
-const REFUSALS: [(Head, &[u8], ScanFault); 11] = [
+const REFUSALS: [(Head, &[u8], ScanFault); 12] = [
     // The chain names a sector past the log's end, then one that holds no record, then the head itself.
     (
         Head { prev: 4096, ..NEXT },
@@ -225,7 +231,16 @@ const REFUSALS: [(Head, &[u8], ScanFault); 11] = [
         EMPTY,
         ScanFault::Place { block: 519 },
     ),
-    // An unmount has another tail, which goes before the rules of operations.
+    // An unmount isn't alone, or has another tail, which goes before the rules of operations.
+    (
+        Head {
+            len: 40,
+            ops: 2,
+            ..ALONE
+        },
+        IN_COMPANY,
+        ScanFault::Place { block: 10 },
+    ),
     (
         Head {
             len: 20,
@@ -310,6 +325,41 @@ fn refuses_by_the_first_broken_rule(rt: HostRuntime) -> Result<(), Fail> {
     assert_eq!(rt;
         found_in(&rt, rt.alloc(), &log).err(),
         Some(ScanFault::ItemType { block: 519 })
+    );
+    Ok(())
+}
+
+/// A byte of the first record that is changed, and the refusal of the chain that comes to it.
+const DAMAGES: [(usize, u8, ScanFault); 4] = [
+    (0, 0, ScanFault::Magic { block: 519 }),
+    (11, 1, ScanFault::Version { block: 519 }),
+    (14, 0x90, ScanFault::Length { block: 519 }),
+    (43, 4, ScanFault::Checksum { block: 519 }),
+];
+
+/// Changes a byte of the first record's header.
+fn damage(rt: &impl Abort, log: &mut [u8], place: usize, value: u8) {
+    assert!(rt; place < SECTOR_BYTES && log.len() == LOG_BYTES);
+    log[SECTOR_BYTES * 4094 + place] = value;
+}
+
+#[test]
+fn refuses_what_the_chain_comes_to(rt: HostRuntime) -> Result<(), Fail> {
+    let mut log = empty_log(rt.alloc())?;
+    put(&rt, &mut log, &NEXT, EMPTY);
+    for (place, value, fault) in DAMAGES {
+        put(&rt, &mut log, &FIRST, EMPTY);
+        damage(&rt, &mut log, place, value);
+        assert_eq!(rt; found_in(&rt, rt.alloc(), &log).err(), Some(fault));
+    }
+    let foreign = Head {
+        uuid: Uuid::NAMESPACE_URL,
+        ..FIRST
+    };
+    put(&rt, &mut log, &foreign, EMPTY);
+    assert_eq!(rt;
+        found_in(&rt, rt.alloc(), &log).err(),
+        Some(ScanFault::Place { block: 519 })
     );
     Ok(())
 }
