@@ -21,5 +21,6 @@ pub mod ReverseLaws
 pub mod Rows
 pub mod SpanLaws
 pub mod Spans
+pub mod Times
 pub mod Tree
 pub mod TreeBlock

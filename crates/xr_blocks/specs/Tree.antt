@@ -54,3 +54,10 @@ tree_blocks form b root level = blocks_under (tree_held form b) root level
 
 abbrev pub IsTreeIn : {X : Type 0} → Form X → Blocks → ℕ → ℕ → Type 0
 IsTreeIn form b root level = IsWholeTree form (site_of b) (block_at b) (is_free b) (pool_size b) root level
+
+-- the blocks of the rows from one on down, and the records of its leaves
+abbrev pub blocks_of : {X : Type 0} → Form X → Blocks → ℕ → List ℕ → List ℕ
+blocks_of form b level row = concat (rows_from (tree_held form b) level row)
+
+abbrev pub records_of : {X : Type 0} → Form X → Blocks → ℕ → List ℕ → List X
+records_of form b level row = flat_map (tree_held form b).records (leaves_from (tree_held form b) level row)

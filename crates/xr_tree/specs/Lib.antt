@@ -1,17 +1,2 @@
-pub mod BlockTest
 pub mod BoundLaws
 pub mod Bounds
-pub mod Cuts
-pub mod Leaf
-pub mod Ledger
-pub mod LedgerLaws
-pub mod Lookup
-pub mod Node
-pub mod NodeLaws
-pub mod Reach
-pub mod OwnedRuns
-pub mod Passed
-pub mod RunBits
-pub mod Under
-pub mod UnderLaws
-pub mod Visits

@@ -1,0 +1,7 @@
+pub mod DescentLemmas
+pub mod FoundLemmas
+pub mod HighLemmas
+pub mod LeafLemmas
+pub mod PartLemmas
+pub mod ReachLemmas
+pub mod SearchLemmas

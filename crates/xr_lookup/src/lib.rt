@@ -1,0 +1,14 @@
+//! Lookups in trees, each on one way from the root down to the leaves.
+#![tactic(auto)]
+
+pub mod cut;
+mod leaf;
+mod lookup;
+mod node;
+mod reach;
+pub mod steps;
+#[cfg(test)]
+mod tests;
+
+pub use lookup::{at_least, at_most, overlap};
+pub use reach::Reach;

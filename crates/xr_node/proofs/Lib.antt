@@ -1,0 +1,3 @@
+pub mod BlockTesting
+pub mod ItemTesting
+pub mod Keys

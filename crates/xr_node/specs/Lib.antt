@@ -1,0 +1,3 @@
+pub mod BlockTest
+pub mod Node
+pub mod NodeLaws

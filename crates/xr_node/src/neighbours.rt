@@ -1,0 +1,44 @@
+//! The neighbours of a block in its level, as its header names them.
+ghost use Rattle.std.specs.Prelude.{◌≡◌, ◌+◌, ◌≤◌, drop};
+ghost use Rattle.xr_blocks.specs.Form.{pointer_size};
+ghost use Rattle.xr_node.specs.BlockTest.{left_in, neighbour_in, right_in};
+
+use crate::read::pointer_bytes;
+use byteorder::{BigEndian, ByteOrder};
+use xr_blocks::{Block, Record};
+
+/// The neighbour that stands at a place, if there is one.
+fn neighbour_at<R: Record>(block: &Block, at: usize) -> Option<u64>
+    requires { at + pointer_size R.form ≤ 4096 }
+    ensures { result ≡ neighbour_in (pointer_size R.form) (drop at block.now) }
+{
+    if R::LONG {
+        let number = BigEndian::read_u64(&block[at..]);
+        if number == u64::MAX {
+            None
+        } else {
+            Some(number)
+        }
+    } else {
+        let number = BigEndian::read_u32(&block[at..]);
+        if number == u32::MAX {
+            None
+        } else {
+            Some(u64::from(number))
+        }
+    }
+}
+
+/// The block to the left, if the header names one.
+pub fn left_of<R: Record>(block: &Block) -> Option<u64>
+    ensures { result ≡ left_in R.form block.now }
+{
+    neighbour_at::<R>(block, 8)
+}
+
+/// The block to the right.
+pub fn right_of<R: Record>(block: &Block) -> Option<u64>
+    ensures { result ≡ right_in R.form block.now }
+{
+    neighbour_at::<R>(block, 8 + pointer_bytes::<R>())
+}

@@ -1,0 +1,114 @@
+//! The items of a tree's block, read where they stand. Nothing is asked of a node's bytes, so they may be any block's.
+ghost use Rattle.std.specs.Prelude.{◌≡◌, ◌+◌, ◌*◌, ◌^◌, ◌<◌, length, slice_index_or, IsTrue};
+ghost use Rattle.xr_base.specs.Image.{part};
+ghost use Rattle.xr_blocks.specs.Form.{header_size, pointer_size};
+ghost use Rattle.xr_blocks.specs.TreeBlock.{count_in, records_in};
+ghost use Rattle.xr_node.specs.BlockTest.{HoldsRecords};
+ghost use Rattle.xr_node.specs.Node.{child_in, high_key_in, key_in, low_key_in};
+
+use byteorder::{BigEndian, ByteOrder};
+use xr_blocks::{Block, Record};
+
+/// The place of the count of items in a header, and bytes of the long header and of the short one.
+const COUNT_PLACE: usize = 6;
+
+const LONG_HEADER: usize = 72;
+
+const SHORT_HEADER: usize = 56;
+
+/// Bytes of a pointer to a block behind the long header and behind the short one.
+const LONG_POINTER: usize = 8;
+
+const SHORT_POINTER: usize = 4;
+
+/// How many items a block of a tree says that it holds.
+pub fn count_of(block: &Block) -> usize
+    ensures count { result ≡ count_in block.now }
+    ensures small { result < 2 ^ 16 }
+{
+    usize::from(BigEndian::read_u16(&block[COUNT_PLACE..COUNT_PLACE + 2]))
+}
+
+/// Bytes of the header of a tree's blocks.
+pub fn header_size<R: Record>() -> usize
+    ensures { result ≡ header_size R.form }
+{
+    if R::LONG { LONG_HEADER } else { SHORT_HEADER }
+}
+
+/// Bytes of a pointer.
+pub fn pointer_bytes<R: Record>() -> usize
+    ensures { result ≡ pointer_size R.form }
+{
+    if R::LONG { LONG_POINTER } else { SHORT_POINTER }
+}
+
+/// The record at a place of a leaf, if its bytes are those of a valid one.
+pub fn record_at<R: Record>(block: &Block, k: usize) -> Option<R>
+    requires { k < R.LEAF_MAX }
+    ensures { result ≡ R.form.taken (part (header_size R.form + R.form.size * k) R.form.size block.now) }
+{
+    let at = header_size::<R>() + R::SIZE * k;
+    R::take(&block[at..at + R::SIZE])
+}
+
+/// A record of a leaf whose records were tested.
+pub fn tested_record<R: Record>(block: &Block, k: usize) -> R
+    requires tested { HoldsRecords R.form block.now }
+    requires within { k < count_in block.now }
+    ensures value { (d : R) → result ≡ slice_index_or (records_in R.form block.now) k d }
+    ensures valid { IsTrue (R.form.is_valid result) }
+{
+    match record_at::<R>(block, k) {
+        Some(record) => record,
+        None => unreachable!(),
+    }
+}
+
+/// How many records a leaf has.
+pub fn record_count<R: Record>(block: &Block) -> usize
+    requires { HoldsRecords R.form block.now }
+    ensures { result ≡ length (records_in R.form block.now) }
+{
+    count_of(block)
+}
+
+/// The key of a child: its low key, with its high key where the tree has one.
+pub fn key_at<R: Record>(block: &Block, k: usize) -> &[u8]
+    requires { k < R.NODE_MAX }
+    ensures { result.now ≡ key_in R.form k block.now }
+{
+    let at = header_size::<R>() + (R::LOW + R::HIGH) * k;
+    &block[at..at + (R::LOW + R::HIGH)]
+}
+
+/// The low key alone, and the high key alone.
+pub fn low_key_at<R: Record>(block: &Block, k: usize) -> &[u8]
+    requires { k < R.NODE_MAX }
+    ensures long { length result.now ≡ R.LOW }
+    ensures value { result.now ≡ low_key_in R.form k block.now }
+{
+    &key_at::<R>(block, k)[..R::LOW]
+}
+
+pub fn high_key_at<R: Record>(block: &Block, k: usize) -> &[u8]
+    requires { k < R.NODE_MAX }
+    ensures long { length result.now ≡ R.HIGH }
+    ensures value { result.now ≡ high_key_in R.form k block.now }
+{
+    &key_at::<R>(block, k)[R::LOW..]
+}
+
+/// The block of a child, a number of the pool where the node is one of a tree.
+pub fn child_at<R: Record>(block: &Block, k: usize) -> u64
+    requires { k < R.NODE_MAX }
+    ensures value { result ≡ child_in R.form k block.now }
+    ensures small { result < 256 ^ pointer_size R.form }
+{
+    let keys_end = header_size::<R>() + R::NODE_MAX as usize * (R::LOW + R::HIGH);
+    if R::LONG {
+        BigEndian::read_u64(&block[keys_end + LONG_POINTER * k..])
+    } else {
+        u64::from(BigEndian::read_u32(&block[keys_end + SHORT_POINTER * k..]))
+    }
+}

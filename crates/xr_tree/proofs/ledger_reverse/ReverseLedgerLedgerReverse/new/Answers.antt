@@ -1,5 +1,0 @@
-use Rattle.xr_tree.proofs.OwnedLines.{ends_none}
-use Rattle.xr_tree.proofs.ledger_reverse.ReverseLedgerLedgerReverse.new.Goals as goal
-
-pub returns : goal.returns
-returns c = ends_none c.no_ends.result c.no_ends.ensures

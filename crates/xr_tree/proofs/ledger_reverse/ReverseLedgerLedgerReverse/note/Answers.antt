@@ -1,7 +1,0 @@
-use Rattle.std.proofs.Common.{refl}
-use Rattle.xr_tree.proofs.OwnedLines.{ends_more}
-use Rattle.xr_tree.proofs.ledger_reverse.ReverseLedgerLedgerReverse.note.Goals as goal
-
-pub returns : goal.returns
-returns c = λ noted holds next agrees.
-    ends_more noted c.args.self.now.ends _ c.args.r.now c.line_of.result _ holds next agrees c.line_of.ensures.value refl c.line_of.ensures.within refl

@@ -1,8 +1,0 @@
-use Rattle.std.proofs.Common.{[], List, ℕ, subst, sym}
-use Rattle.xr_tree.proofs.Runs.{holds_none}
-use Rattle.xr_blocks.specs.FreeRuns.{size_span}
-use Rattle.xr_tree.specs.RunBits.{HoldsRuns}
-use Rattle.xr_tree.proofs.ledger_size.SizeLedgerLedgerBySize.new.Goals as goal
-
-pub returns : goal.returns
-returns c = subst (λ (bits : List ℕ). HoldsRuns size_span bits []) (sym c.empty_map.ensures) (holds_none size_span)

@@ -1,6 +1,0 @@
-use Rattle.std.proofs.Common.{◌≡◌, ℕ, ◌<◌, ◌≤◌, false}
-use Rattle.xr_blocks.specs.Bits.{has_bit}
-use Rattle.xr_tree.proofs.run_bits.are_clear.Given as goal
-
-abbrev pub invariant-loop-n : goal.invariant-loop-n
-invariant-loop-n l = (i : ℕ) → l.from ≤ i → i < l.n → has_bit l.bits i ≡ false

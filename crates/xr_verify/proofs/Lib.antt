@@ -1,0 +1,13 @@
+pub mod Children
+pub mod Entering
+pub mod Lasts
+pub mod Ledgers
+pub mod OwnedLines
+pub mod Passing
+pub mod Runs
+pub mod SharedRuns
+pub mod Soundness
+pub mod Visited
+pub mod Visiting
+pub mod WholeRows
+pub mod WholeTrees

@@ -1,0 +1,12 @@
+use Rattle.std.proofs.Common.{[], ◌∷◌, None, sym}
+use Rattle.xr_verify.proofs.Lasts.{last_or-append}
+use Rattle.xr_verify.proofs.Runs.{holds_more}
+use Rattle.xr_blocks.specs.Reference.{reference_span}
+use Rattle.xr_verify.proofs.ledger_reference.ReferenceLedgerLedgerReference.note.Goals as goal
+
+pub returns : goal.returns
+returns c = λ noted holds next agrees.
+    let now = c.set_bits.ensures in (
+      holds_more reference_span c.args.self.now.held c.set_bits.new.bits noted c.args.r.now holds.0 now.long now.set now.others,
+      sym (last_or-append None noted (c.args.r.now ∷ [])),
+    )

@@ -1,0 +1,6 @@
+pub mod Ledger
+pub mod LedgerLaws
+pub mod OwnedRuns
+pub mod Passed
+pub mod RunBits
+pub mod Visits

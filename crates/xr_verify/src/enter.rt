@@ -1,0 +1,91 @@
+//! A block of a tree by itself: whether it may be entered, and whether it gives the key that its parent names.
+ghost use Rattle.std.specs.Prelude.{◌≡◌, ℕ, ◌+◌, ◌*◌, ◌<◌, ◌≤◌, ◌↔◌, [], ◌∷◌, false, length, IsOk, IsTrue, IfSome};
+ghost use Rattle.xr_blocks.specs.Bits.{has_bit};
+ghost use Rattle.xr_blocks.specs.Form.{key_size};
+ghost use Rattle.xr_blocks.specs.Overlay.{block_at, is_free, pool_size};
+ghost use Rattle.xr_blocks.specs.Rows.{key_held};
+ghost use Rattle.xr_blocks.specs.Tree.{tree_held};
+ghost use Rattle.xr_verify.specs.Visits.{AreMarked, IsOpen, IsTested};
+
+use xr_blocks::bits::{has_bit, set_bit};
+use xr_blocks::{Overlay, Record};
+use xr_node::block_test::{test_leaf, test_node};
+use xr_node::key_test::{is_key_of_leaf, is_key_of_node};
+use xr_node::read::count_of;
+use xr_node::tree_fault::TreeKind;
+
+/// Marks a block, if it is neither free nor marked.
+fn mark(over: &Overlay, n: u32, seen: &mut [u8]) -> Result<(), TreeKind>
+    requires within { n < pool_size over.now }
+    requires room { pool_size over.now ≤ 8 * length seen.old }
+    ensures open { IsOk result ↔ IsOpen over.now n seen.old }
+    ensures marked { IsOk result → AreMarked seen.old (n ∷ []) seen.new }
+    ensures long { length seen.new ≡ length seen.old }
+{
+    if over.is_free(n) || has_bit(seen, n as usize) {
+        return Err(TreeKind::Reuse);
+    }
+    set_bit(seen, n as usize);
+    Ok(())
+}
+
+/// Tests a block by itself.
+fn test_block<R: Record>(over: &Overlay, n: u32, level: u32, least: usize) -> Result<(), TreeKind>
+    requires within { n < pool_size over.now }
+    ensures { IsOk result ↔ IsTested R.form over.now least level n }
+{
+    let block = over.block(n);
+    if level == 0 {
+        test_leaf::<R>(over, n, least, block)
+    } else {
+        test_node::<R>(over, n, level, least, block)
+    }
+}
+
+/// Whether a tested block has a key.
+fn has_key<R: Record>(over: &Overlay, n: u32, level: u32, key: &[u8]) -> bool
+    requires within { n < pool_size over.now }
+    requires tested { (least : ℕ) × IsTested R.form over.now least level n }
+    requires long { length key.now ≡ key_size R.form }
+    ensures { IsTrue result ↔ key.now ≡ key_held R.form (tree_held R.form over.now) level n }
+{
+    let block = over.block(n);
+    if count_of(block) == 0 {
+        false
+    } else if level == 0 {
+        is_key_of_leaf::<R>(block, key)
+    } else {
+        is_key_of_node::<R>(block, key)
+    }
+}
+
+/// Whether a tested block has the key that its parent gives, if it has a parent.
+pub(crate) fn is_named<R: Record>(over: &Overlay, n: u32, level: u32, key: Option<&[u8]>) -> bool
+    requires within { n < pool_size over.now }
+    requires tested { (least : ℕ) × IsTested R.form over.now least level n }
+    requires long { IfSome key (λ k. length k.now ≡ key_size R.form) }
+    ensures { IsTrue result ↔ IfSome key.entry (λ k. k.now ≡ key_held R.form (tree_held R.form over.now) level n) }
+{
+    match key {
+        Some(key) => has_key::<R>(over, n, level, key),
+        None => true,
+    }
+}
+
+/// Marks a block and tests it by itself.
+pub(crate) fn open<R: Record>(
+    over: &Overlay,
+    n: u32,
+    level: u32,
+    least: usize,
+    seen: &mut [u8],
+) -> Result<(), TreeKind>
+    requires within { n < pool_size over.now }
+    requires room { pool_size over.now ≤ 8 * length seen.old }
+    ensures tests { IsOk result ↔ (IsOpen over.now n seen.old × IsTested R.form over.now least level n) }
+    ensures marked { IsOk result → AreMarked seen.old (n ∷ []) seen.new }
+    ensures long { length seen.new ≡ length seen.old }
+{
+    mark(over, n, seen)?;
+    test_block::<R>(over, n, level, least)
+}
