@@ -39,14 +39,14 @@ same_left at now xs ys same n within = same n (Contains-append_left xs ys n with
 same_right : (at now : ℕ → List ℕ) (xs ys : List ℕ) → AreSameAt at now (xs ++ ys) → AreSameAt at now ys
 same_right at now xs ys same n within = same n (Contains-append_right xs ys n within)
 
-flat_map_same : {B : Type 0} (f g : ℕ → List B) (xs : List ℕ) → ((n : ℕ) → Contains xs n → f n ≡ g n) → flat_map f xs ≡ flat_map g xs
+pub flat_map_same : {B : Type 0} (f g : ℕ → List B) (xs : List ℕ) → ((n : ℕ) → Contains xs n → f n ≡ g n) → flat_map f xs ≡ flat_map g xs
 flat_map_same f g [] same = refl
 flat_map_same f g (x ∷ xs) same =
     let first : f x ≡ g x = same x (0, omega arith, refl) in
     let rest : flat_map f xs ≡ flat_map g xs = flat_map_same f g xs (λ n within. same n (Contains-append_right (x ∷ []) xs n within)) in
     rw (first, rest) refl
 
-map_same : {B : Type 0} (f g : ℕ → B) (xs : List ℕ) → ((n : ℕ) → Contains xs n → f n ≡ g n) → map f xs ≡ map g xs
+pub map_same : {B : Type 0} (f g : ℕ → B) (xs : List ℕ) → ((n : ℕ) → Contains xs n → f n ≡ g n) → map f xs ≡ map g xs
 map_same f g [] same = refl
 map_same f g (x ∷ xs) same =
     let first : f x ≡ g x = same x (0, omega arith, refl) in
@@ -92,7 +92,7 @@ module _ {X : Type 0} (form : Form X) (at now : ℕ → List ℕ) where
   leaf_row zero row same = same_left at now row [] same
   leaf_row (suc level) row same = leaf_row level (flat_map (named_below (held_in form at)) row) (same_right at now row _ same)
 
-  linked_same : (P Q : Place → List ℕ → Type 0) (level : ℕ) (left : Option ℕ) (row : List ℕ) (right : Option ℕ)
+  pub linked_same : (P Q : Place → List ℕ → Type 0) (level : ℕ) (left : Option ℕ) (row : List ℕ) (right : Option ℕ)
       → ((place : Place) → Contains row place.number → P place (at place.number) → Q place (now place.number))
       → AreLinked P at level left row right → AreLinked Q now level left row right
   unfolding AreLinked
@@ -102,13 +102,13 @@ module _ {X : Type 0} (form : Form X) (at now : ℕ → List ℕ) where
     linked_same P Q level (Some n) ns right (λ place within. each place (Contains-append_right (n ∷ []) ns place.number within)) linked.1,
   )
 
-  leaf_same : (site : Site) (least : ℕ) (place : Place) → now place.number ≡ at place.number
+  pub leaf_same : (site : Site) (least : ℕ) (place : Place) → now place.number ≡ at place.number
       → IsWholeLeaf form site (held_in form at) least place (at place.number) → IsWholeLeaf form site (held_in form now) least place (now place.number)
   leaf_same site least place same whole =
       let P : List ℕ → Type 0 = λ bytes. IsWhole least form.leaf_max (leaf_bytes form site) (records_in form bytes) place bytes in
       subst P (sym same) whole
 
-  node_same : (site : Site) (least : ℕ) (place : Place) → now place.number ≡ at place.number
+  pub node_same : (site : Site) (least : ℕ) (place : Place) → now place.number ≡ at place.number
       → IsWholeNode form site (held_in form at) least place (at place.number) → IsWholeNode form site (held_in form now) least place (now place.number)
   node_same site least place same whole =
       let P : List ℕ → Type 0 = λ bytes. IsWhole least form.node_max (node_bytes form site) (entries_in form bytes) place bytes in

@@ -1,5 +1,5 @@
 -- The blocks of a pool, as they are now and as they were last kept.
-use Rattle.std.specs.Prelude.{◌≡◌, ◌⊎◌, ℕ, zero, suc, ◌+◌, ◌-◌, ◌*◌, ◌/◌, ◌%◌, ◌<◌, ◌≤◌, Bool, true, false, nat_lt, if◌then◌else◌, List, [], ◌∷◌, ◌++◌, length, replicate, slice_index, slice_index_or, slice_set}
+use Rattle.std.specs.Prelude.{◌≡◌, ◌⊎◌, ℕ, zero, suc, ◌+◌, ◌-◌, ◌*◌, ◌/◌, ◌%◌, ◌<◌, ◌≤◌, ◌&&◌, Bool, true, false, nat_lt, if◌then◌else◌, List, [], ◌∷◌, ◌++◌, length, replicate, slice_index, slice_index_or, slice_set}
 use Rattle.xr_base.specs.Image.{block_of, part}
 use Rattle.xr_base.specs.declared.geometry.TheConstants.{BLOCK_BYTES, BLOCKS, FILE_BLOCKS, FILES, FIRST_DATA_BLOCK, FIRST_FILE_BLOCK, FIRST_GROUP_BLOCK, FIRST_INODE, GROUP_BLOCKS, GROUPS}
 use Rattle.xr_blocks.specs.Bits.{has_bit, with_bit, without_bit}
@@ -44,6 +44,14 @@ block_at b n = slice_index_or b.current n []
 
 abbrev pub is_free : Blocks → ℕ → Bool
 is_free b n = has_bit b.free n
+
+-- how many blocks of the pool are free; block 0 is none of them
+unfoldable pub free_below : Blocks → ℕ → ℕ
+free_below b zero = 0
+free_below b (suc n) = (if nat_lt 0 n && is_free b n then 1 else 0) + free_below b n
+
+abbrev pub free_count : Blocks → ℕ
+free_count b = free_below b (pool_size b)
 
 -- the pool of a file, or that of a group, by its first image block and its bytes
 pub record IsFilePool (first bytes : ℕ) : Type 0 where

@@ -26,15 +26,15 @@ pub fn clear_bit(bits: &mut [u8], n: usize)
     bits[n / 8] &= !(1 << (n % 8));
 }
 
-/// The lowest number below `end` whose bit is set.
-pub fn first_bit(bits: &[u8], end: usize) -> Option<usize>
+/// The lowest number from `from` up to `end` whose bit is set.
+pub fn first_bit(bits: &[u8], from: usize, end: usize) -> Option<usize>
     requires { end ≤ 8 * length bits.now }
-    ensures none { IsNone result ↔ ((n : ℕ) → n < end → has_bit bits.now n ≡ false) }
-    ensures below { IfSome result (λ n. n < end) }
+    ensures none { IsNone result ↔ ((n : ℕ) → from ≤ n → n < end → has_bit bits.now n ≡ false) }
+    ensures within { IfSome result (λ n. (from ≤ n) × (n < end)) }
     ensures set { IfSome result (λ n. has_bit bits.now n ≡ true) }
-    ensures first { IfSome result (λ n. (k : ℕ) → k < n → has_bit bits.now k ≡ false) }
+    ensures first { IfSome result (λ n. (k : ℕ) → from ≤ k → k < n → has_bit bits.now k ≡ false) }
 {
-    for n in 0..end {
+    for n in from..end {
         if has_bit(bits, n) {
             return Some(n);
         }

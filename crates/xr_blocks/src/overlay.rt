@@ -247,16 +247,16 @@ impl Overlay {
         has_bit(&self.free, n as usize)
     }
 
-    /// Takes the lowest free block, if there is one.
+    /// Takes the lowest free block of the pool, if there is one.
     pub fn take_block(&mut self) -> Option<u32>
-        ensures none { IsNone result ↔ ((n : ℕ) → n < pool_size self.old → is_free self.old n ≡ false) }
+        ensures none { IsNone result ↔ ((n : ℕ) → 1 ≤ n → n < pool_size self.old → is_free self.old n ≡ false) }
         ensures same { IsNone result → self.new ≡ self.old }
         ensures taken { IfSome result (λ n. self.new ≡ with_taken self.old n) }
-        ensures within { IfSome result (λ n. n < pool_size self.old) }
+        ensures within { IfSome result (λ n. (1 ≤ n) × (n < pool_size self.old)) }
         ensures was_free { IfSome result (λ n. is_free self.old n ≡ true) }
-        ensures first { IfSome result (λ n. (k : ℕ) → k < n → is_free self.old k ≡ false) }
+        ensures first { IfSome result (λ n. (k : ℕ) → 1 ≤ k → k < n → is_free self.old k ≡ false) }
     {
-        let n = first_bit(&self.free, self.current.len())?;
+        let n = first_bit(&self.free, 1, self.current.len())?;
         clear_bit(&mut self.free, n);
         Some(n as u32)
     }

@@ -32,12 +32,12 @@ use Rattle.xr_lookup.proofs.FoundLemmas.{first_least}
 use Rattle.xr_lookup.proofs.HighLemmas.{IsUpTo, high_all}
 use Rattle.xr_lookup.proofs.PartLemmas.{Begins, all_of_part, all_left, all_right, find_behind, front_of_place, front_passes, last_at, last_of_none, last_of_part, last_of_parted, none_found, pairs_next, pairs_of_part, parted, some_found}
 
-less_if : (o : Ordering) → is_lt o ≡ true → o ≡ Less
+pub less_if : (o : Ordering) → is_lt o ≡ true → o ≡ Less
 less_if Less is = refl
 less_if Equal is = cc
 less_if Greater is = cc
 
-lower_too : {X : Type 0} (order : X → X → Ordering) (total : IsTotalOrder order) (x y r : X) (o : Ordering) → order y r ≡ o → is_le o ≡ true
+pub lower_too : {X : Type 0} (order : X → X → Ordering) (total : IsTotalOrder order) (x y r : X) (o : Ordering) → order y r ≡ o → is_le o ≡ true
     → order x y ≡ Less → order x r ≡ Less
 lower_too order total x y r Less at is less = total.trans x y r less at
 lower_too order total x y r Equal at is less = sym (alike_right total y r x at) ∙ less
@@ -50,7 +50,7 @@ turned Greater = (refl, refl)
 
 module _ {X : Type 0} (form : Form X) (laws : IsForm form) where
   -- what is less than a record before a place stands before it too
-  falls : (cut : Cut X) (x y : X) → form.order x y ≡ Less → is_before form cut y ≡ true → is_before form cut x ≡ true
+  pub falls : (cut : Cut X) (x y : X) → form.order x y ≡ Less → is_before form cut y ≡ true → is_before form cut x ≡ true
   falls Start x y less is = is
   falls (Before r) x y less is = ap is_lt (laws.total.trans x y r less (less_if (form.order y r) is))
   falls (Behind r) x y less is = ap is_le (lower_too form.order laws.total x y r (form.order y r) refl is less)
@@ -144,11 +144,11 @@ module _ {X : Type 0} (form : Form X) (laws : IsForm form) (b : Blocks) (top lev
   pub node_holds : tree_records form b n top ≡ flat_map under entries
   node_holds = ap (tree_records form b n) above ∙ node_records (tree_held form b) level n
 
-  all_ascend : AllPairs (λ (x y : X). form.order x y ≡ Less) (flat_map under entries)
+  pub all_ascend : AllPairs (λ (x y : X). form.order x y ≡ Less) (flat_map under entries)
   all_ascend = subst (AllPairs (λ (x y : X). form.order x y ≡ Less)) node_holds of_top.ascend
 
   -- a child of the node
-  all_agree : AllPairs (λ (x y : X). form.agree x y ≡ true) (flat_map under entries)
+  pub all_agree : AllPairs (λ (x y : X). form.agree x y ≡ true) (flat_map under entries)
   all_agree = subst (AllPairs (λ (x y : X). form.agree x y ≡ true)) node_holds of_top.agree
 
   pub child_under : (k : ℕ) (d : Entry) → k < length entries → (let e = get_or entries k d in IsUnder form b level e.child)
@@ -167,23 +167,23 @@ module _ {X : Type 0} (form : Form X) (laws : IsForm form) (b : Blocks) (top lev
         agree = pairs_of_part (λ (x y : X). form.agree x y ≡ true) under entries k d all_agree within;
       }
 
-  first_under : (k : ℕ) (d : Entry) → k < length entries → (let e = get_or entries k d in HasFirst form (tree_held form b) level e.child)
+  pub first_under : (k : ℕ) (d : Entry) → k < length entries → (let e = get_or entries k d in HasFirst form (tree_held form b) level e.child)
   unfolding AreRowsOf
   first_under k d within =
       has_first form laws (site_of b) (block_at b) (tree_held form b) (half form level) level (flat_map (named_below (tree_held form b)) node.row) _
       (half_some form laws level) node.rows.2 (child_in_row form laws (site_of b) (block_at b) (tree_held form b) node.row n k d node.within within)
 
-  named : (k : ℕ) (d : Entry) → k < length entries → (let e = get_or entries k d in e.key ≡ key_held form (tree_held form b) level e.child)
+  pub named : (k : ℕ) (d : Entry) → k < length entries → (let e = get_or entries k d in e.key ≡ key_held form (tree_held form b) level e.child)
   unfolding AreRowsOf
   named k d within = named_at form (tree_held form b) level node.row n node.rows.1 node.within k d within
 
-  first_good : (k : ℕ) (d : Entry) (within : k < length entries) → (let first = first_under k d within in form.is_valid first.first ≡ true)
+  pub first_good : (k : ℕ) (d : Entry) (within : k < length entries) → (let first = first_under k d within in form.is_valid first.first ≡ true)
   first_good k d within =
       let child = first_under k d within in
       let own = child_under k d within in
       (subst (All (λ (r : X). form.is_valid r ≡ true)) child.records own.valid) 0 child.first (omega arith)
 
-  begin : (cut : Cut X) → All (Begins under (entry_is_before form cut) (is_before form cut)) entries
+  pub begin : (cut : Cut X) → All (Begins under (entry_is_before form cut) (is_before form cut)) entries
   begin cut k d within =
       let child = first_under k d within in
       record {

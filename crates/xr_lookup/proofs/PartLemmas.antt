@@ -170,7 +170,7 @@ module _ {E X : Type 0} (R : X → X → Type 0) (g : E → List X) (before : E 
   behind_fails y ys pairs fails (suc k) d within =
       false_from_ne_true (test (get_or ys k d)) (λ is. cc (fails, falls y (get_or ys k d) (pairs_first R y ys pairs k d (omega arith)) is))
 
-  all_fail : (es : List E) → All (Begins g before test) es → AllPairs R (flat_map g es) → All (λ (e : E). before e ≡ false) es
+  pub all_fail : (es : List E) → All (Begins g before test) es → AllPairs R (flat_map g es) → All (λ (e : E). before e ≡ false) es
       → All (λ (x : X). test x ≡ false) (flat_map g es)
   all_fail [] begin pairs fail = λ k d within. absurd (omega arith)
   all_fail (e ∷ es) begin pairs fail =
@@ -185,7 +185,7 @@ module _ {E X : Type 0} (R : X → X → Type 0) (g : E → List X) (before : E 
   last_of_none es begin pairs place = last_none test (flat_map g es) (all_fail es begin pairs (λ k d within. place.from k d (omega arith) within))
 
   -- the parts in front of an item, its own, and those behind it
-  cut_at : (es : List E) (k : ℕ) (d : E) → k < length es
+  pub cut_at : (es : List E) (k : ℕ) (d : E) → k < length es
       → flat_map g es ≡ flat_map g (take k es) ++ (g (get_or es k d) ++ flat_map g (drop (suc k) es))
   cut_at es k d within = ap (flat_map g) (split_at es k d within) ∙ flat_map-append g (take k es) (get_or es k d ∷ drop (suc k) es)
 

@@ -52,7 +52,7 @@ linked_at P at level left (m ∷ ms) right n linked (zero, inside, is) =
     (record { number = m; level = level; left = left; right = first_of ms right }, is, linked.0)
 linked_at P at level left (m ∷ ms) right n linked (suc k, inside, is) = linked_at P at level (Some m) ms right n linked.1 (k, omega (arith, inside), is)
 
-same_each : {A B C : Type 0} (f : A → C) (h : A → B) (g : B → C) (xs : List A) → map f xs ≡ map g (map h xs) → All (λ (x : A). f x ≡ g (h x)) xs
+pub same_each : {A B C : Type 0} (f : A → C) (h : A → B) (g : B → C) (xs : List A) → map f xs ≡ map g (map h xs) → All (λ (x : A). f x ≡ g (h x)) xs
 same_each f h g [] same k d within = absurd (omega arith)
 same_each {C = C} f h g (x ∷ xs) same zero d within = ap (λ (ys : List C). get_or ys 0 (f x)) same
 same_each {C = C} f h g (x ∷ xs) same (suc k) d within = same_each f h g xs (ap (λ (ys : List C). drop 1 ys) same) k d (omega arith)

@@ -9,10 +9,10 @@ ghost use Rattle.xr_blocks.specs.TreeBlock.{Entry, entries_in, records_in};
 ghost use Rattle.xr_lookup.specs.Under.{IsUnder};
 
 use crate::cut::Cut;
+use crate::reach::Reach;
 use crate::steps::{
     child_count, child_of, children_before, reach_of, record_count, record_of, records_before,
 };
-use crate::reach::Reach;
 use xr_blocks::{Overlay, Record};
 
 /// What is looked for from a place of the order on: any record, or one that meets another.

@@ -25,7 +25,7 @@ laid_again at n bytes fits =
     ∙ ap (λ (xs : List ℕ). take at bytes ++ (part at n bytes ++ xs)) (sym (drop-drop n at bytes))
     ∙ ap (λ (xs : List ℕ). take at bytes ++ xs) (take-append-drop n (drop at bytes)) ∙ take-append-drop at bytes
 
-length-sum : (at : ℕ) (bytes : List ℕ) → length (little_bytes 4 (checksum_of (without_four at bytes))) ≡ 4
+pub length-sum : (at : ℕ) (bytes : List ℕ) → length (little_bytes 4 (checksum_of (without_four at bytes))) ≡ 4
 length-sum at bytes = length-bytes_low_first 0 4 (checksum_of (without_four at bytes))
 
 -- the checksum is right where its four bytes are those of all others
@@ -63,7 +63,7 @@ neighbour_chosen : (long test : Bool) (n : ℕ) → (let width : ℕ = if long t
 neighbour_chosen long true n is = let width : ℕ = if long then 8 else 4 in ap (big_bytes width) (eqb-true n (256 ^ width - 1) is) ∙ no_neighbour long
 neighbour_chosen long false n is = refl
 
-neighbour_again : (long : Bool) (bytes : List ℕ) → (let width : ℕ = if long then 8 else 4 in
+pub neighbour_again : (long : Bool) (bytes : List ℕ) → (let width : ℕ = if long then 8 else 4 in
     width ≤ length bytes → AreBytes bytes → take width bytes ≡ neighbour width (neighbour_in width bytes))
 neighbour_again long bytes fits all =
     let width : ℕ = if long then 8 else 4 in
@@ -195,6 +195,32 @@ framed_block form site n level items bytes identified long all framed rest =
       behind ∙ sym (laid_behind form site place (count_in bytes) items identified),
     )
 
+-- a block's bytes beside its checksum
+pub record IsLaid {X : Type 0} (form : Form X) (site : Site) (place : Place) (count : ℕ) (items bytes : List ℕ) : Type 0 where
+  pub before : take (sum_place form) bytes ≡ take (sum_place form) (laid form site place count items)
+  pub behind : drop (sum_place form + 4) bytes ≡ drop (sum_place form + 4) (laid form site place count items)
+
+pub block_laid : {X : Type 0} (form : Form X) (site : Site) (place : Place) (count : ℕ) (items bytes : List ℕ)
+    → BLOCK_BYTES ≤ length (laid form site place count items) → bytes ≡ tree_block form site place count items → IsLaid form site place count items bytes
+unfolding tree_block
+block_laid form site place count items bytes long is =
+    let fill = fields_fill form.long in
+    let sp : ℕ = sum_place form in
+    let all : List ℕ = laid form site place count items in
+    let sum : List ℕ = little_bytes 4 (checksum_of (without_four sp all)) in
+    record {
+      before = ap (take sp) is ∙ ap (take sp) (append_assoc (take sp all) sum (drop (sp + length sum) all))
+          ∙ take_at (take sp all) _ sp (length-take-le sp all (omega (arith, fill, long)));
+      behind = ap (drop (sp + 4)) is
+          ∙ drop_overlaid sp (sp + 4) sum all (omega (arith, length-sum sp all)) (omega (arith, fill, long, length-sum sp all));
+    }
+
+-- with the checksum they are the block
+pub laid_block : {X : Type 0} (form : Form X) (site : Site) (place : Place) (count : ℕ) (items bytes : List ℕ) → IsLaid form site place count items bytes
+    → summed (sum_place form) bytes ≡ tree_block form site place count items
+unfolding tree_block
+laid_block form site place count items bytes is = summed_same (sum_place form) bytes (laid form site place count items) is.before is.behind
+
 -- and a block of a tree passes the tests, and holds its items, its count and its neighbours
 pub record IsRead {X : Type 0} (form : Form X) (site : Site) (place : Place) (count : ℕ) (items bytes : List ℕ) : Type 0 where
   pub framed : place.level < 2 ^ 16 → IsFramed form site place.number place.level bytes
@@ -202,6 +228,8 @@ pub record IsRead {X : Type 0} (form : Form X) (site : Site) (place : Place) (co
   pub same_count : count < 2 ^ 16 → count_in bytes ≡ count
   pub same_left : Names (pointer_size form) place.left → left_in form bytes ≡ place.left
   pub same_right : Names (pointer_size form) place.right → right_in form bytes ≡ place.right
+  pub left_part : part 8 (pointer_size form) bytes ≡ neighbour (pointer_size form) place.left
+  pub right_part : part (8 + pointer_size form) (pointer_size form) bytes ≡ neighbour (pointer_size form) place.right
 
 pub block_read : {X : Type 0} (form : Form X) (site : Site) (place : Place) (count : ℕ) (items bytes : List ℕ) → length site.uuid ≡ 16
     → header_size form + length items ≤ BLOCK_BYTES → bytes ≡ tree_block form site place count items → IsRead form site place count items bytes
@@ -211,15 +239,12 @@ block_read form site place count items bytes identified room is =
     let p : ℕ = pointer_size form in
     let sp : ℕ = sum_place form in
     let all : List ℕ = laid form site place count items in
-    let sum : List ℕ = little_bytes 4 (checksum_of (without_four sp all)) in
     let long : length all ≡ BLOCK_BYTES =
     length-filled BLOCK_BYTES (header form site place count ++ items)
     (omega (arith, room, length-append (header form site place count) items, length-header form site place count identified)) in
-    let before : take sp bytes ≡ take sp all =
-    ap (take sp) is ∙ ap (take sp) (append_assoc (take sp all) sum (drop (sp + length sum) all))
-    ∙ take_at (take sp all) _ sp (length-take-le sp all (omega (arith, fill, long))) in
-    let behind : drop (sp + 4) bytes ≡ drop (sp + 4) all =
-    ap (drop (sp + 4)) is ∙ drop_overlaid sp (sp + 4) sum all (omega (arith, length-sum sp all)) (omega (arith, fill, long, length-sum sp all)) in
+    let same = block_laid form site place count items bytes (omega (arith, long)) is in
+    let before = same.before in
+    let behind = same.behind in
     let zeros : ℕ = header_size form - (sp + 4) in
     let after : drop (sp + 4) bytes ≡ replicate zeros 0 ++ rest_of form items = behind ∙ laid_behind form site place count items identified in
     let size : sp + 4 + zeros ≡ header_size form = omega (arith, fill) in
@@ -261,4 +286,6 @@ block_read form site place count items bytes identified room is =
       same_count = λ small. sym (big_from-take 0 2 2 (drop 6 bytes) (omega arith)) ∙ ap (big_number 2) two.1 ∙ reads_alone 2 count small;
       same_left = λ names. neighbour_read form.long place.left (drop 8 bytes) names three.1;
       same_right = λ names. neighbour_read form.long place.right (drop (8 + p) bytes) names four.1;
+      left_part = three.1;
+      right_part = four.1;
     }

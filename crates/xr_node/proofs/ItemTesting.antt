@@ -12,7 +12,7 @@ use Rattle.xr_base.specs.Image.{part}
 use Rattle.xr_base.specs.declared.geometry.TheConstants.{BLOCK_BYTES}
 use Rattle.xr_blocks.specs.BigEndianLaws.{bytes_again, dropped_bytes, taken_bytes}
 use Rattle.xr_blocks.specs.BlockLaws.{length-filled, length-items}
-use Rattle.xr_node.specs.BlockTest.{AreZeros, HoldsRecords, IsFramed, IsTestedLeaf, IsTestedNode, place_in}
+use Rattle.xr_node.specs.BlockTest.{AreZeros, HasRecords, HoldsRecords, IsFramed, IsTestedLeaf, IsTestedNode, place_in}
 use Rattle.xr_blocks.specs.Form.{AreBytes, Form, IsForm, header_size, key_size, pointer_size}
 use Rattle.xr_node.specs.NodeLaws.{length-entries}
 use Rattle.xr_blocks.specs.Rows.{IsWhole}
@@ -135,7 +135,7 @@ leaf_whole form laws site least n bytes identified long all tested =
       most_items = omega (arith, found.0, tested.most_items);
     }
 
-leaf_room : {X : Type 0} (form : Form X) (laws : IsForm form) (records : List X) → length records ≤ form.leaf_max
+pub leaf_room : {X : Type 0} (form : Form X) (laws : IsForm form) (records : List X) → length records ≤ form.leaf_max
     → header_size form + length (flat_map form.bytes_of records) ≤ BLOCK_BYTES
 leaf_room form laws records few =
     let size : length records * form.size ≤ form.leaf_max * form.size = mul-le-mul_right form.size few in
@@ -148,23 +148,34 @@ leaf_read form laws site least place bytes identified whole =
     block_read form site place (length (records_in form bytes)) (flat_map form.bytes_of (records_in form bytes)) bytes identified
     (leaf_room form laws (records_in form bytes) whole.most_items) whole.whole
 
-pub leaf_tested : {X : Type 0} (form : Form X) (laws : IsForm form) (site : Site) (least : ℕ) (place : Place) (bytes : List ℕ) → length site.uuid ≡ 16
-    → place.level ≡ 0 → IsWhole least form.leaf_max (leaf_bytes form site) (records_in form bytes) place bytes → IsTestedLeaf form site least place.number bytes
-leaf_tested form laws site least place bytes identified low whole =
+-- each place of a whole leaf holds a record
+pub leaf_holds : {X : Type 0} (form : Form X) (laws : IsForm form) (site : Site) (least : ℕ) (place : Place) (bytes : List ℕ) → length site.uuid ≡ 16
+    → IsWhole least form.leaf_max (leaf_bytes form site) (records_in form bytes) place bytes
+    → (count_in bytes ≡ length (records_in form bytes)) × HasRecords form (count_in bytes) bytes
+leaf_holds form laws site least place bytes identified whole =
     let count : ℕ = count_in bytes in
     let items : List ℕ = flat_map form.bytes_of (records_in form bytes) in
     let read = leaf_read form laws site least place bytes identified whole in
     let counted : count ≡ length (records_in form bytes) = read.same_count (omega (arith, laws.leaf_few, whole.most_items)) in
     let length_items : length items ≡ form.size * count = length-items form.bytes_of form.size (records_in form bytes) laws.sized ∙ ap (λ (n : ℕ). n * form.size) (sym counted) ∙ omega arith in
-    let have = records_all form count (drop (header_size form) bytes) (sym counted) in
-    record {
-      framed = subst (λ (level : ℕ). IsFramed form site place.number level bytes) low (read.framed (omega (arith, low)));
-      least_items = omega (arith, counted, whole.least_items);
-      most_items = omega (arith, counted, whole.most_items);
-      records = record {
+    let have = records_all form count (drop (header_size form) bytes) (sym counted) in (
+      counted,
+      record {
         valid = λ k within. subst (λ (o : _). IsSome o) (sym (read_at form bytes k)) (have k within);
         zeros = zeros_after form items bytes (form.size * count) length_items read.rest;
-      };
+      },
+    )
+
+pub leaf_tested : {X : Type 0} (form : Form X) (laws : IsForm form) (site : Site) (least : ℕ) (place : Place) (bytes : List ℕ) → length site.uuid ≡ 16
+    → place.level ≡ 0 → IsWhole least form.leaf_max (leaf_bytes form site) (records_in form bytes) place bytes → IsTestedLeaf form site least place.number bytes
+leaf_tested form laws site least place bytes identified low whole =
+    let read = leaf_read form laws site least place bytes identified whole in
+    let holds = leaf_holds form laws site least place bytes identified whole in
+    record {
+      framed = subst (λ (level : ℕ). IsFramed form site place.number level bytes) low (read.framed (omega (arith, low)));
+      least_items = omega (arith, holds.0, whole.least_items);
+      most_items = omega (arith, holds.0, whole.most_items);
+      records = holds.1;
     }
 
 -- a node's keys and pointers
@@ -238,7 +249,7 @@ node_whole form laws site least n level bytes identified long all tested =
       most_items = omega (arith, length-entries form bytes, tested.most_items);
     }
 
-node_room : {X : Type 0} (form : Form X) (laws : IsForm form) (entries : List Entry) (keys : ℕ)
+pub node_room : {X : Type 0} (form : Form X) (laws : IsForm form) (entries : List Entry) (keys : ℕ)
     → length (flat_map (λ (e : Entry). e.key) entries) ≡ keys → keys ≤ form.node_max * key_size form → length entries ≤ form.node_max
     → (length (node_items form entries) ≡ form.node_max * key_size form + length entries * pointer_size form)
     × (header_size form + length (node_items form entries) ≤ BLOCK_BYTES)

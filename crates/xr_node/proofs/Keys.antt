@@ -25,7 +25,7 @@ tested_order [] (y ∷ ys) = refl
 tested_order (x ∷ xs) [] = refl
 tested_order (x ∷ xs) (y ∷ ys) = then_same (nat_cmp x y) _ _ (tested_order xs ys)
 
-nothing_less : (key : List ℕ) → greater_key key [] ≡ key
+pub nothing_less : (key : List ℕ) → greater_key key [] ≡ key
 nothing_less [] = refl
 nothing_less (x ∷ xs) = refl
 

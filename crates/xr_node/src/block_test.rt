@@ -44,7 +44,7 @@ fn is_summed(bytes: &[u8], at: usize) -> bool
 }
 
 /// Where the checksum stands.
-fn checksum_place<R: Record>() -> usize
+pub fn checksum_place<R: Record>() -> usize
     ensures { result ≡ sum_place R.form }
 {
     if R::LONG { 64 } else { 52 }

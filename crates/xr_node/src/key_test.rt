@@ -12,10 +12,10 @@ use crate::read::{count_of, key_at, tested_record};
 use xr_blocks::{Block, Record};
 
 /// Bytes that a key fits in: a node has room for four of them, and they are all of its block then.
-const KEY_ROOM: usize = 1024;
+pub const KEY_ROOM: usize = 1024;
 
 /// A key has room.
-fn key_fits<R: Record>()
+pub fn key_fits<R: Record>()
     ensures { key_size R.form ≤ 1024 }
 {}
 
@@ -26,7 +26,7 @@ fn is_less(key: &[u8], other: &[u8]) -> bool
     key < other
 }
 
-fn is_same(key: &[u8], other: &[u8]) -> bool
+pub fn is_same(key: &[u8], other: &[u8]) -> bool
     ensures { IsTrue result ↔ key.now ≡ other.now }
 {
     key[..] == other[..]
@@ -56,7 +56,7 @@ fn keep_greater(next: &[u8], best: &mut [u8])
 }
 
 /// Writes the greatest high key of the records of a leaf. `next` is room for a key.
-fn put_greatest<R: Record>(block: &Block, next: &mut [u8], out: &mut [u8])
+pub fn put_greatest<R: Record>(block: &Block, next: &mut [u8], out: &mut [u8])
     requires tested { HoldsRecords R.form block.now }
     requires some { 0 < count_in block.now }
     requires next_room { length next.old ≡ R.form.high }
@@ -122,7 +122,7 @@ fn high_at<R: Record>(block: &Block, k: usize) -> &[u8]
 }
 
 /// The greatest high key of the children of a node.
-fn greatest_high<R: Record>(block: &Block) -> &[u8]
+pub fn greatest_high<R: Record>(block: &Block) -> &[u8]
     requires some { 0 < count_in block.now }
     requires few { count_in block.now ≤ R.form.node_max }
     ensures { result.now ≡ greatest_key (map (high_part R.form) (entries_in R.form block.now)) }

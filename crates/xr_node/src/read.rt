@@ -10,7 +10,7 @@ use byteorder::{BigEndian, ByteOrder};
 use xr_blocks::{Block, Record};
 
 /// The place of the count of items in a header, and bytes of the long header and of the short one.
-const COUNT_PLACE: usize = 6;
+pub const COUNT_PLACE: usize = 6;
 
 const LONG_HEADER: usize = 72;
 

@@ -1,0 +1,172 @@
+//! The header of a tree's block: as a whole, its neighbours, its count, and the checksum that ends each edit.
+ghost use Rattle.std.specs.Prelude.{◌≡◌, ℕ, ◌+◌, ◌-◌, ◌*◌, ◌^◌, ◌<◌, ◌≤◌, ◌++◌, List, length, replicate};
+ghost use Rattle.byteorder.specs.Endian.{big_bytes};
+ghost use Rattle.xr_base.specs.Image.{overlaid};
+ghost use Rattle.xr_blocks.specs.Form.{header_size, pointer_size};
+ghost use Rattle.xr_blocks.specs.Overlay.{pool_size};
+ghost use Rattle.xr_blocks.specs.Tree.{site_of};
+ghost use Rattle.xr_blocks.specs.TreeBlock.{Place, Site, header, neighbour, sum_place, summed, tree_block};
+ghost use Rattle.xr_edit.specs.Edit.{IsHeader, with_left, with_right};
+
+use byteorder::{BigEndian, ByteOrder, LittleEndian};
+use xr_base::crc32c_without;
+use xr_blocks::{Block, Overlay, Record};
+use xr_node::block_test::checksum_place;
+use xr_node::read::{COUNT_PLACE, header_size, pointer_bytes};
+
+/// Bytes of an identifier.
+const UUID_BYTES: usize = 16;
+
+/// The place of the left neighbour in a header.
+const LEFT_PLACE: usize = 8;
+
+/// What a header says beside the count and the checksum: where the block stands in the image and in its tree, and whose it
+/// is.
+#[derive(Clone, Copy, Debug, PartialEq, Eq)]
+pub struct Header {
+    pub block: u32,
+    pub level: u32,
+    pub left: Option<u32>,
+    pub right: Option<u32>,
+    pub owner: u64,
+    pub uuid: [u8; UUID_BYTES],
+}
+
+impl Header {
+    /// The header of a block of a pool.
+    pub fn new(over: &Overlay, n: u32, level: u32, left: Option<u32>, right: Option<u32>) -> Header
+        requires { n < pool_size over.now }
+        ensures { IsHeader result (site_of over.now) (record { number = n; level = level; left = left; right = right }) }
+    {
+        over.has_blocks();
+        Header {
+            block: over.place(n),
+            level,
+            left,
+            right,
+            owner: over.owner(),
+            uuid: *over.uuid(),
+        }
+    }
+}
+
+/// Writes a number that a pointer may be, the lowest bytes where it has fewer than the number.
+pub fn put_number<R: Record>(out: &mut [u8], number: u64)
+    requires { length out.old ≡ pointer_size R.form }
+    ensures { out.new ≡ big_bytes (pointer_size R.form) number }
+{
+    let bytes = number.to_be_bytes();
+    out.copy_from_slice(&bytes[8 - pointer_bytes::<R>()..]);
+}
+
+/// Writes the block of a neighbour.
+fn put_neighbour<R: Record>(out: &mut [u8], block: Option<u32>)
+    requires { length out.old ≡ pointer_size R.form }
+    ensures { out.new ≡ neighbour (pointer_size R.form) block }
+{
+    match block {
+        Some(n) => put_number::<R>(out, u64::from(n)),
+        None => out.fill(255),
+    }
+}
+
+/// Writes the magic, the level and the count.
+fn put_start<R: Record>(out: &mut [u8], level: u32, count: usize)
+    requires level { level < 2 ^ 16 }
+    requires count { count < 2 ^ 16 }
+    requires room { length out.old ≡ 8 }
+    ensures { out.new ≡ big_bytes 4 R.form.magic ++ big_bytes 2 level ++ big_bytes 2 count }
+{
+    BigEndian::write_u32(&mut out[..4], R::MAGIC);
+    BigEndian::write_u16(&mut out[4..6], level as u16);
+    BigEndian::write_u16(&mut out[6..8], count as u16);
+}
+
+/// Writes both neighbours.
+fn put_links<R: Record>(out: &mut [u8], left: Option<u32>, right: Option<u32>)
+    requires { length out.old ≡ 2 * pointer_size R.form }
+    ensures { out.new ≡ neighbour (pointer_size R.form) left ++ neighbour (pointer_size R.form) right }
+{
+    let (first, second) = out.split_at_mut(pointer_bytes::<R>());
+    put_neighbour::<R>(first, left);
+    put_neighbour::<R>(second, right);
+}
+
+/// Writes the block's first sector, counted from the image's, and the image's identifier.
+fn put_place(out: &mut [u8], block: u32, uuid: &[u8; UUID_BYTES])
+    requires { length out.old ≡ 32 }
+    ensures { out.new ≡ big_bytes 8 (block * 8) ++ big_bytes 8 0 ++ uuid.now }
+{
+    BigEndian::write_u64(&mut out[..8], u64::from(block) * 8);
+    BigEndian::write_u64(&mut out[8..16], 0);
+    out[16..].copy_from_slice(uuid);
+}
+
+/// Writes the owner, and zeros in the room behind it.
+fn put_owner<R: Record>(out: &mut [u8], owner: u64)
+    requires { length out.old ≡ pointer_size R.form + (header_size R.form - sum_place R.form) }
+    ensures { out.new ≡ big_bytes (pointer_size R.form) owner ++ replicate (header_size R.form - sum_place R.form) 0 }
+{
+    let (first, zeros) = out.split_at_mut(pointer_bytes::<R>());
+    put_number::<R>(first, owner);
+    zeros.fill(0);
+}
+
+/// Writes a header without its checksum.
+pub(crate) fn put_header<R: Record>(out: &mut [u8], fields: &Header, count: usize)
+    requires level { fields.now.level < 2 ^ 16 }
+    requires count { count < 2 ^ 16 }
+    requires room { length out.old ≡ header_size R.form }
+    ensures { (site : Site) (place : Place) → IsHeader fields.now site place → out.new ≡ header R.form site place count }
+{
+    let (start, rest) = out.split_at_mut(LEFT_PLACE);
+    let (links, behind) = rest.split_at_mut(2 * pointer_bytes::<R>());
+    let (place, owner) = behind.split_at_mut(32);
+    put_start::<R>(start, fields.level, count);
+    put_links::<R>(links, fields.left, fields.right);
+    put_place(place, fields.block, &fields.uuid);
+    put_owner::<R>(owner, fields.owner);
+}
+
+/// Writes the checksum.
+pub(crate) fn seal<R: Record>(block: &mut Block)
+    ensures { block.new ≡ summed (sum_place R.form) block.old }
+{
+    let at = checksum_place::<R>();
+    let sum = crc32c_without(block, at);
+    LittleEndian::write_u32(&mut block[at..at + 4], sum);
+}
+
+/// Writes the count and the checksum.
+pub(crate) fn finish<R: Record>(block: &mut Block, count: usize)
+    requires { count < 2 ^ 16 }
+    ensures { block.new ≡ summed (sum_place R.form) (overlaid 6 (big_bytes 2 count) block.old) }
+{
+    BigEndian::write_u16(&mut block[COUNT_PLACE..COUNT_PLACE + 2], count as u16);
+    seal::<R>(block);
+}
+
+/// Writes a neighbour at a place of a header, and the checksum.
+fn link<R: Record>(block: &mut Block, at: usize, other: Option<u32>)
+    requires { at + pointer_size R.form ≤ 4096 }
+    ensures { block.new ≡ summed (sum_place R.form) (overlaid at (neighbour (pointer_size R.form) other) block.old) }
+{
+    put_neighbour::<R>(&mut block[at..at + pointer_bytes::<R>()], other);
+    seal::<R>(block);
+}
+
+/// Gives a block another left neighbour.
+pub fn set_left<R: Record>(block: &mut Block, left: Option<u32>)
+    ensures { (site : Site) (place : Place) (count : ℕ) (items : List ℕ) → length site.uuid ≡ 16
+        → block.old ≡ tree_block R.form site place count items → block.new ≡ tree_block R.form site (with_left left place) count items }
+{
+    link::<R>(block, LEFT_PLACE, left);
+}
+
+/// Gives a block another right neighbour.
+pub fn set_right<R: Record>(block: &mut Block, right: Option<u32>)
+    ensures { (site : Site) (place : Place) (count : ℕ) (items : List ℕ) → length site.uuid ≡ 16
+        → block.old ≡ tree_block R.form site place count items → block.new ≡ tree_block R.form site (with_right right place) count items }
+{
+    link::<R>(block, LEFT_PLACE + pointer_bytes::<R>(), right);
+}
