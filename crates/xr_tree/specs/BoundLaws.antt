@@ -42,14 +42,14 @@ module _ {X : Type 0} (form : Form X) (laws : IsForm form) (site : Site) (at : �
   leaves_hold : (least : ℕ) (row : List ℕ) → AreLinked (IsWholeLeaf form site held least) at 0 None row None → length row * least ≤ length (flat_map held.records row)
   leaves_hold least row = row_holds (IsWholeLeaf form site held least) at held.records least 0 None row None (λ place whole. whole.least_items)
 
-  nodes_hold : (least level : ℕ) (row : List ℕ) → AreLinked (IsWholeNode form site held least) at (suc level) None row None
+  pub nodes_hold : (least level : ℕ) (row : List ℕ) → AreLinked (IsWholeNode form site held least) at (suc level) None row None
       → length row * least ≤ length (flat_map (named_below held) row)
   nodes_hold least level row =
       row_holds (IsWholeNode form site held least) at (named_below held) least (suc level) None row None
       (λ place whole. omega (arith, whole.least_items, length-map (held.entries place.number) (λ (e : Entry). e.child)))
 
   -- each row is at most as long as the part of the row below that half full nodes leave of it
-  few_blocks : (level : ℕ) (row : List ℕ) → AreRowsOf form site at held (half form level) level row
+  pub few_blocks : (level : ℕ) (row : List ℕ) → AreRowsOf form site at held (half form level) level row
       → (let leaves = leaves_from held level row in
       (length leaves * (form.leaf_max / 2) ≤ length (flat_map held.records leaves))
       × (length (concat (rows_from held level row)) * (form.node_max / 2 - 1) + length row ≤ length leaves * (form.node_max / 2)))

@@ -1,0 +1,187 @@
+-- The full blocks on the way of a record down from a block: they are the same where the blocks below hold the same, and the way
+-- through two blocks that have the entries of one goes where it went through that one.
+use Rattle.std.proofs.Common.{◌≡◌, ℕ, zero, suc, ◌+◌, ◌-◌, ◌<◌, ◌≤◌, ◌==◌, Bool, true, false, if◌then◌else◌, List, [], ◌∷◌, ◌++◌, length, take, drop, map, get_or, refl, sym, ap, ◌∙◌, subst, arith}
+use Rattle.std.proofs.Math.ListN.{get_or-append}
+use Rattle.std.proofs.Math.Seq.{drop-cons}
+use Rattle.std.proofs.lemmas.Bool.Decides.{nat_tests}
+use Rattle.std.proofs.lemmas.List.{get_or-append-add, length-map, map-append}
+use Rattle.std.specs.List.{All, flat_map}
+use Rattle.xr_blocks.proofs.Times.{times_same}
+use Rattle.xr_blocks.specs.Form.{Form, IsForm}
+use Rattle.xr_blocks.specs.Overlay.{Blocks, block_at}
+use Rattle.xr_blocks.specs.Rows.{named_below}
+use Rattle.xr_blocks.specs.Tree.{blocks_of, tree_held, tree_records}
+use Rattle.xr_blocks.specs.TreeBlock.{Entry, count_in, entries_in}
+use Rattle.xr_change.proofs.ChildFacts.{child_at}
+use Rattle.xr_change.proofs.Descent.{child_in_tree, child_least, names_around}
+use Rattle.xr_change.proofs.InTree.{is_under}
+use Rattle.xr_change.proofs.RowBlocks.{HoldSame, times_row, times_under}
+use Rattle.xr_change.specs.Ways.{IsInTree, child_of, full_on_way, is_full, item_count, item_most, passing, way_place}
+use Rattle.xr_lookup.proofs.DescentLemmas.{begin, leaf_is, node_few}
+use Rattle.xr_lookup.proofs.PartLemmas.{pairs_before}
+use Rattle.xr_lookup.specs.Cuts.{IsParted, entry_is_before, is_before}
+use Rattle.xr_lookup.specs.UnderLaws.{half_some, node_records}
+use Rattle.xr_lookup.specs.declared.cut.Cut.TheVariants.{Behind}
+use Rattle.xr_node.specs.NodeLaws.{length-entries}
+
+if_most : (test : Bool) (m n : ℕ) → m ≤ n → (if test then suc m else 0) ≤ suc n
+if_most true m n few = omega (arith, few)
+if_most false m n few = omega arith
+
+module _ {A : Type 0} (test : A → Bool) where
+  pub passing_most : (xs : List A) → passing test xs ≤ length xs
+  unfolding passing
+  passing_most [] = omega arith
+  passing_most (x ∷ xs) = if_most (test x) (passing test xs) (length xs) (passing_most xs)
+
+  passing_front : (xs ys : List A) → passing test ys ≡ 0 → passing test (xs ++ ys) ≡ passing test xs
+  unfolding passing
+  passing_front [] ys none = none
+  passing_front (x ∷ xs) ys none = ap (λ (n : ℕ). if test x then suc n else 0) (passing_front xs ys none)
+
+  passing_behind : (xs ys : List A) → All (λ (x : A). test x ≡ true) xs → passing test (xs ++ ys) ≡ length xs + passing test ys
+  unfolding passing
+  passing_behind [] ys all = omega arith
+  passing_behind (x ∷ xs) ys all =
+      let rest = passing_behind xs ys (λ k d within. all (suc k) d (omega (arith, within))) in
+      rw (all 0 x (omega arith)) (omega (arith, rest))
+
+  -- the last item that passes, by the first of the second part
+  front_fails : (xs : List A) (y : A) (ys : List A) → test y ≡ false → passing test (xs ++ y ∷ ys) ≡ passing test xs
+  unfolding passing
+  front_fails xs y ys fails = passing_front xs (y ∷ ys) (rw fails refl)
+
+  behind_passes : (xs : List A) (y : A) (ys : List A) → IsParted test (xs ++ y ∷ ys) → test y ≡ true
+      → passing test (xs ++ y ∷ ys) - 1 ≡ length xs + (passing test (y ∷ ys) - 1)
+  unfolding passing
+  behind_passes xs y ys parted passes =
+      let all = pairs_before (λ (a b : A). test b ≡ true → test a ≡ true) xs y ys parted in
+      let some : 1 ≤ passing test (y ∷ ys) = rw passes (omega arith) in
+      omega (arith, some, passing_behind xs (y ∷ ys) (λ k d within. all k d within passes))
+
+-- the child on the way through the entries of two nodes, as those of one
+module _ {X : Type 0} (form : Form X) (r : X) where
+  abbrev names : List Entry → List ℕ
+  names es = map (λ (e : Entry). e.child) es
+
+  abbrev way_child : List Entry → ℕ
+  way_child es = get_or (names es) (way_place form r es) 0
+
+  pub way_within : (es : List Entry) → 1 ≤ length es → way_place form r es < length es
+  way_within es some = omega (arith, some, passing_most (entry_is_before form (Behind r)) es)
+
+  pub way_in_front : (xs ys : List Entry) → 1 ≤ length xs → 1 ≤ length ys
+      → ((d : Entry) → entry_is_before form (Behind r) (get_or ys 0 d) ≡ false) → way_child (xs ++ ys) ≡ way_child xs
+  way_in_front xs [] some more fails = absurd (omega (arith, more))
+  way_in_front xs (y ∷ ys) some more fails =
+      let place : way_place form r (xs ++ y ∷ ys) ≡ way_place form r xs = ap (λ (n : ℕ). n - 1) (front_fails (entry_is_before form (Behind r)) xs y ys (fails y)) in
+      ap (λ (k : ℕ). get_or (names (xs ++ y ∷ ys)) k 0) place
+      ∙ ap (λ (ms : List ℕ). get_or ms (way_place form r xs) 0) (map-append (λ (e : Entry). e.child) xs (y ∷ ys))
+      ∙ get_or-append (names xs) (names (y ∷ ys)) 0 (way_place form r xs) (omega (arith, way_within xs some, length-map xs (λ (e : Entry). e.child)))
+
+  pub way_behind : (xs ys : List Entry) → 1 ≤ length ys → IsParted (entry_is_before form (Behind r)) (xs ++ ys)
+      → ((d : Entry) → entry_is_before form (Behind r) (get_or ys 0 d) ≡ true) → way_child (xs ++ ys) ≡ way_child ys
+  way_behind xs [] more parted passes = absurd (omega (arith, more))
+  way_behind xs (y ∷ ys) more parted passes =
+      let long : length (names xs) ≡ length xs = length-map xs (λ (e : Entry). e.child) in
+      let place : way_place form r (xs ++ y ∷ ys) ≡ length (names xs) + way_place form r (y ∷ ys) =
+      behind_passes (entry_is_before form (Behind r)) xs y ys parted (passes y) ∙ ap (λ (n : ℕ). n + way_place form r (y ∷ ys)) (sym long) in
+      ap (λ (k : ℕ). get_or (names (xs ++ y ∷ ys)) k 0) place
+      ∙ ap (λ (ms : List ℕ). get_or ms (length (names xs) + way_place form r (y ∷ ys)) 0) (map-append (λ (e : Entry). e.child) xs (y ∷ ys))
+      ∙ get_or-append-add (names xs) (names (y ∷ ys)) (way_place form r (y ∷ ys)) 0
+
+-- 1 for a full block
+abbrev pub full_mark : ℕ → ℕ → ℕ
+full_mark count most = if count == most then 1 else 0
+
+pub full_one : (count most : ℕ) → count ≡ most → full_mark count most ≡ 1
+full_one count most same = grind (arith, nat_tests)
+
+pub full_none : (count most : ℕ) → count < most → full_mark count most ≡ 0
+full_none count most less = grind (arith, nat_tests)
+
+-- whether a block is full, as its count is read
+pub full_leaf : {X : Type 0} (form : Form X) (laws : IsForm form) (b : Blocks) (level n : ℕ) → IsInTree form b level n → level ≡ 0 → (count most : ℕ) (bytes : List ℕ)
+    → count ≡ count_in bytes → bytes ≡ block_at b n → form.leaf_max ≡ most → (count == most) ≡ is_full form b level n
+full_leaf form laws b level n here leaf count most bytes read block same =
+    let at_zero : IsInTree form b zero n = subst (λ (l : ℕ). IsInTree form b l n) leaf here in
+    let whole = leaf_is form laws b n (is_under form b zero n at_zero) in
+    let counted : count ≡ item_count form b zero n = read ∙ ap count_in block ∙ sym whole.counted in
+    ap (λ (x : ℕ). x == most) counted ∙ ap (λ (x : ℕ). item_count form b zero n == x) (sym same) ∙ ap (λ (l : ℕ). is_full form b l n) (sym leaf)
+
+pub full_node : {X : Type 0} (form : Form X) (b : Blocks) (level n : ℕ) → (level ≡ 0 → ⊥) → (count most : ℕ) (bytes : List ℕ)
+    → count ≡ count_in bytes → bytes ≡ block_at b n → form.node_max ≡ most → (count == most) ≡ is_full form b level n
+full_node form b zero n node count most bytes read block same = absurd (node refl)
+full_node form b (suc level) n node count most bytes read block same =
+    let counted : count ≡ item_count form b (suc level) n = read ∙ ap count_in block ∙ sym (length-entries form (block_at b n)) in
+    ap (λ (x : ℕ). x == most) counted ∙ ap (λ (x : ℕ). item_count form b (suc level) n == x) (sym same)
+
+pub full_if : {X : Type 0} (form : Form X) (b : Blocks) (level n : ℕ) → is_full form b level n ≡ true → item_count form b level n ≡ item_most form level
+full_if form b level n is = grind (arith, nat_tests)
+
+module _ {X : Type 0} (form : Form X) (laws : IsForm form) (b : Blocks) where
+  most_items : (level n : ℕ) → IsInTree form b level n → item_count form b level n ≤ item_most form level
+  most_items zero n here = let whole = leaf_is form laws b n (is_under form b zero n here) in omega (arith, whole.counted, whole.few)
+  most_items (suc level) n here =
+      omega (arith, node_few form laws b (suc level) level n refl (is_under form b (suc level) n here), length-entries form (block_at b n))
+
+  pub room_if : (level n : ℕ) → IsInTree form b level n → is_full form b level n ≡ false → item_count form b level n < item_most form level
+  room_if level n here not = let few = most_items level n here in grind (arith, nat_tests)
+
+module _ {X : Type 0} (form : Form X) (laws : IsForm form) (r : X) where
+  -- a full block counts
+  pub full_some : (b : Blocks) (level n : ℕ) → item_count form b level n ≡ item_most form level → 1 ≤ full_on_way form b level n r
+  unfolding full_on_way
+  full_some b zero n full = omega (arith, full_one (item_count form b zero n) form.leaf_max full)
+  full_some b (suc level) n full = omega (arith, full_one (item_count form b (suc level) n) form.node_max full)
+
+  -- a node that isn't full doesn't
+  pub full_below : (b : Blocks) (level n k : ℕ) → item_count form b (suc level) n < form.node_max → k ≡ way_place form r (entries_in form (block_at b n))
+      → full_on_way form b (suc level) n r ≡ full_on_way form b level (child_of form b n k) r
+  unfolding full_on_way
+  full_below b level n k room is =
+      let child = ap (λ (j : ℕ). full_on_way form b level (child_of form b n j) r) is in
+      omega (arith, child, full_none (item_count form b (suc level) n) form.node_max room)
+
+  pub full_same : (a b : Blocks) (level n : ℕ) → IsInTree form a level n → 1 ≤ item_count form a level n → HoldSame form a b (blocks_of form a level (n ∷ []))
+      → full_on_way form b level n r ≡ full_on_way form a level n r
+  unfolding full_on_way
+  full_same a b zero n here some same =
+      let holds = same n (omega (arith, times_same n [], times_row form a n zero (n ∷ []))) in
+      ap (λ (items : List X). full_mark (length items) form.leaf_max) holds.same_records
+  full_same a b (suc level) n here some same =
+      let holds = same n (omega (arith, times_same n [], times_row form a n (suc level) (n ∷ []))) in
+      let es : List Entry = entries_in form (block_at a n) in
+      let k : ℕ = way_place form r es in
+      let within : k < length es = way_within form r es some in
+      let c : ℕ = child_of form a n k in
+      let cs : List ℕ = named_below (tree_held form a) n in
+      let below : full_on_way form b level c r ≡ full_on_way form a level c r =
+      full_same a b level c (child_in_tree form a level n k here within) (omega (arith, half_some form laws level, child_least form a level n k here within))
+      (λ m there. same m (omega (arith, there, times_under form a level n (take k cs) c (drop (suc k) cs) (names_around form a level n k here within) m))) in
+      ap (λ (entries : List Entry). full_mark (length entries) form.node_max + full_on_way form b level (way_child form r entries) r) holds.same_entries
+      ∙ ap (λ (rest : ℕ). full_mark (length es) form.node_max + rest) below
+
+-- whether a child begins in front of a record is whether its first child does
+pub first_passes : {X : Type 0} (form : Form X) (laws : IsForm form) (b : Blocks) (level n k : ℕ) (r : X) (here : IsInTree form b (suc (suc level)) n)
+    (within : k < length (entries_in form (block_at b n))) (d d' : Entry)
+    → entry_is_before form (Behind r) (get_or (entries_in form (block_at b (child_of form b n k))) 0 d')
+    ≡ entry_is_before form (Behind r) (get_or (entries_in form (block_at b n)) k d)
+first_passes {X = X} form laws b level n k r here within d d' =
+    let c : ℕ = child_of form b n k in
+    let child_here : IsInTree form b (suc level) c = child_in_tree form b (suc level) n k here within in
+    let es : List Entry = entries_in form (block_at b c) in
+    let some : 1 ≤ length es = omega (arith, half_some form laws (suc level), child_least form b (suc level) n k here within) in
+    let own = begin form laws b (suc (suc level)) (suc level) n refl (is_under form b (suc (suc level)) n here) (Behind r) k d within in
+    let first = begin form laws b (suc level) level c refl (is_under form b (suc level) c child_here) (Behind r) 0 d' some in
+    let under : Entry → List X = λ e. tree_records form b e.child level in
+    let same : own.first ∷ own.others ≡ first.first ∷ (first.others ++ flat_map under (drop 1 es)) =
+    sym own.part ∙ ap (λ (m : ℕ). tree_records form b m (suc level)) (child_at form b n k c d within refl)
+    ∙ node_records (tree_held form b) level c ∙ ap (flat_map under) (drop-cons es 0 d' some)
+    ∙ ap (λ (xs : List X). xs ++ flat_map under (drop 1 es)) first.part in
+    let head : own.first ≡ first.first = ap (λ (xs : List X). get_or xs 0 own.first) same in
+    first.same ∙ ap (is_before form (Behind r)) (sym head) ∙ sym own.same
+
+pub full_most : (full : Bool) → (if full then 1 else 0) ≤ 1
+full_most true = omega arith
+full_most false = omega arith

@@ -1,0 +1,181 @@
+-- Two rows whose blocks hold the same items, one block after the other: what stands below them is the same.
+use Rattle.std.proofs.Common.{◌≡◌, ℕ, zero, suc, ◌+◌, ◌≤◌, None, List, [], ◌∷◌, ◌++◌, map, get_or, refl, sym, ap, ◌∙◌, subst, arith}
+use Rattle.std.proofs.lemmas.List.{get_or-map, length-map, map-append}
+use Rattle.std.proofs.lemmas.List.Concat.{flat_map-append}
+use Rattle.std.proofs.lemmas.List.Elements.{All-append}
+use Rattle.std.specs.List.{All, flat_map}
+use Rattle.xr_blocks.specs.Form.{Form}
+use Rattle.xr_blocks.specs.FrameLaws.{are_rows_same, flat_map_same, leaf_same, node_same}
+use Rattle.xr_blocks.specs.Overlay.{Blocks, block_at}
+use Rattle.xr_blocks.specs.Rows.{AreLinked, AreNamed, AreRowsOf, Held, half, key_held, leaves_from, named_below}
+use Rattle.xr_blocks.specs.Times.{times}
+use Rattle.xr_blocks.specs.Tree.{blocks_of, records_of, tree_held}
+use Rattle.xr_blocks.specs.TreeBlock.{Entry, Place, Site}
+use Rattle.xr_blocks.proofs.Times.{times_at, times_of}
+use Rattle.xr_change.specs.Alters.{HoldsSame, IsWholeAt}
+use Rattle.xr_change.specs.Regroups.{HaveSameItems}
+use Rattle.xr_change.proofs.RowBlocks.{blocks_same, children, holds_same, key_same, records_same, times_append, times_below, times_blocks_append, times_leaves, times_row}
+use Rattle.xr_lookup.proofs.PartLemmas.{all_left, all_right}
+use Rattle.xr_lookup.specs.UnderLaws.{same_each}
+
+-- the children that some blocks name are those of their entries
+pub named_flat : {X : Type 0} (held : Held X) (row : List ℕ) → flat_map (named_below held) row ≡ map (λ (e : Entry). e.child) (flat_map held.entries row)
+named_flat held [] = refl
+named_flat held (n ∷ ns) =
+    ap (λ (xs : List ℕ). named_below held n ++ xs) (named_flat held ns)
+    ∙ sym (map-append (λ (e : Entry). e.child) (held.entries n) (flat_map held.entries ns))
+
+-- each entry has the key of its child
+pub each_key : (key : ℕ → List ℕ) (es : List Entry) → All (λ (e : Entry). e.key ≡ key e.child) es
+    → map (λ (e : Entry). e.key) es ≡ map key (map (λ (e : Entry). e.child) es)
+each_key key [] all = refl
+each_key key (e ∷ es) all =
+    let first : e.key ≡ key e.child = all 0 e (omega arith) in
+    let rest = each_key key es (λ k d within. all (suc k) d (omega arith)) in
+    rw (first, rest) refl
+
+module _ {X : Type 0} (form : Form X) (held : Held X) (level : ℕ) where
+  abbrev pub HasKey : Entry → Type 0
+  HasKey e = e.key ≡ key_held form held level e.child
+
+  pub named_entries : (row : List ℕ) → AreNamed form held level row → All HasKey (flat_map held.entries row)
+  unfolding AreNamed
+  named_entries [] named = λ k d within. absurd (omega (arith, within))
+  named_entries (n ∷ ns) named =
+      All-append HasKey (held.entries n) (flat_map held.entries ns) (same_each (λ (e : Entry). e.key) (λ (e : Entry). e.child) (key_held form held level) (held.entries n) named.0)
+      (named_entries ns named.1)
+
+  pub entries_named : (row : List ℕ) → All HasKey (flat_map held.entries row) → AreNamed form held level row
+  unfolding AreNamed
+  entries_named [] all = tt
+  entries_named (n ∷ ns) all = (
+    each_key (key_held form held level) (held.entries n) (all_left HasKey (held.entries n) (flat_map held.entries ns) all),
+    entries_named ns (all_right HasKey (held.entries n) (flat_map held.entries ns) all),
+  )
+
+  pub named_apart : (xs ys : List ℕ) → AreNamed form held level (xs ++ ys) → AreNamed form held level xs × AreNamed form held level ys
+  unfolding AreNamed
+  named_apart [] ys named = (tt, named)
+  named_apart (x ∷ xs) ys named = let rest = named_apart xs ys named.1 in ((named.0, rest.0), rest.1)
+
+  pub named_joined : (xs ys : List ℕ) → AreNamed form held level xs → AreNamed form held level ys → AreNamed form held level (xs ++ ys)
+  unfolding AreNamed
+  named_joined [] ys front rest = rest
+  named_joined (x ∷ xs) ys front rest = (front.0, named_joined xs ys front.1 rest)
+
+-- entries have the keys of their children still where these have the same
+pub keys_stay : {X : Type 0} (form : Form X) (held held' : Held X) (level : ℕ) (es : List Entry)
+    → ((m : ℕ) → 1 ≤ times m (map (λ (e : Entry). e.child) es) → key_held form held' level m ≡ key_held form held level m)
+    → All (HasKey form held level) es → All (HasKey form held' level) es
+keys_stay form held held' level es same all k d within =
+    let e = get_or es k d in
+    let child : get_or (map (λ (entry : Entry). entry.child) es) k e.child ≡ e.child = get_or-map (λ (entry : Entry). entry.child) es k d e.child within in
+    let there : 1 ≤ times e.child (map (λ (entry : Entry). entry.child) es) =
+    subst (λ (m : ℕ). 1 ≤ times m (map (λ (entry : Entry). entry.child) es)) child
+    (times_at (map (λ (entry : Entry). entry.child) es) k e.child (omega (arith, within, length-map es (λ (entry : Entry). entry.child)))) in
+    all k d within ∙ sym (same e.child there)
+
+-- the blocks of the rows below one
+abbrev pub blocks_below : {X : Type 0} → Form X → Blocks → ℕ → List ℕ → List ℕ
+blocks_below form b zero row = []
+blocks_below form b (suc level) row = blocks_of form b level (children form b row)
+
+pub times_rows : {X : Type 0} (form : Form X) (b : Blocks) (m level : ℕ) (row : List ℕ)
+    → times m (blocks_of form b level row) ≡ times m row + times m (blocks_below form b level row)
+times_rows form b m zero row = omega (arith, times_leaves form b m row)
+times_rows form b m (suc level) row = times_below form b m level row
+
+pub times_rest_append : {X : Type 0} (form : Form X) (b : Blocks) (m level : ℕ) (xs ys : List ℕ)
+    → times m (blocks_below form b level (xs ++ ys)) ≡ times m (blocks_below form b level xs) + times m (blocks_below form b level ys)
+times_rest_append form b m level xs ys =
+    omega (
+      arith,
+      times_rows form b m level (xs ++ ys),
+      times_rows form b m level xs,
+      times_rows form b m level ys,
+      times_blocks_append form b m level xs ys,
+      times_append m xs ys,
+    )
+
+-- the first row of some is linked
+pub row_linked : {X : Type 0} (form : Form X) (site : Site) (at : ℕ → List ℕ) (held : Held X) (least level : ℕ) (row : List ℕ)
+    → AreRowsOf form site at held least level row → AreLinked (IsWholeAt form site held level least) at level None row None
+unfolding AreRowsOf IsWholeAt
+row_linked form site at held least zero row rows = rows
+row_linked form site at held least (suc level) row rows = rows.0
+
+-- the same items
+module _ {X : Type 0} (form : Form X) (before after : Blocks) where
+  abbrev pub SameItems : ℕ → List ℕ → List ℕ → Type 0
+  SameItems = HaveSameItems (tree_held form before) (tree_held form after)
+
+  pub items_append : (level : ℕ) (xs ys xs' ys' : List ℕ) → SameItems level xs xs' → SameItems level ys ys' → SameItems level (xs ++ ys) (xs' ++ ys')
+  unfolding HaveSameItems
+  items_append zero xs ys xs' ys' front rest =
+      flat_map-append (tree_held form after).records xs' ys' ∙ rw (front, rest) (sym (flat_map-append (tree_held form before).records xs ys))
+  items_append (suc level) xs ys xs' ys' front rest =
+      flat_map-append (tree_held form after).entries xs' ys' ∙ rw (front, rest) (sym (flat_map-append (tree_held form before).entries xs ys))
+
+  pub items_same : (level : ℕ) (row : List ℕ) → ((m : ℕ) → 1 ≤ times m row → HoldsSame form before after m) → SameItems level row row
+  unfolding HaveSameItems
+  items_same zero row same =
+      flat_map_same (tree_held form after).records (tree_held form before).records row (λ m within. (same m (times_of row m within)).same_records)
+  items_same (suc level) row same =
+      flat_map_same (tree_held form after).entries (tree_held form before).entries row (λ m within. (same m (times_of row m within)).same_entries)
+
+  pub whole_same : (site : Site) (least level : ℕ) (place : Place) → block_at after place.number ≡ block_at before place.number
+      → IsWholeAt form site (tree_held form before) level least place (block_at before place.number)
+      → IsWholeAt form site (tree_held form after) level least place (block_at after place.number)
+  unfolding IsWholeAt
+  whole_same site least zero place same whole = leaf_same form (block_at before) (block_at after) site least place same whole
+  whole_same site least (suc level) place same whole = node_same form (block_at before) (block_at after) site least place same whole
+
+  module _ (row row' : List ℕ) where
+    -- the nodes of both name the same children with the same keys
+    pub named_regrouped : (level : ℕ) → flat_map (tree_held form after).entries row' ≡ flat_map (tree_held form before).entries row
+        → ((m : ℕ) → 1 ≤ times m (children form before row) → HoldsSame form before after m)
+        → AreNamed form (tree_held form before) level row → AreNamed form (tree_held form after) level row'
+    named_regrouped level items same named =
+        entries_named form (tree_held form after) level row' (subst (All (HasKey form (tree_held form after) level)) (sym items)
+        (keys_stay form (tree_held form before) (tree_held form after) level (flat_map (tree_held form before).entries row)
+        (λ m some. key_same form before after level m (same m (subst (λ (ms : List ℕ). 1 ≤ times m ms) (sym (named_flat (tree_held form before) row)) some)))
+        (named_entries form (tree_held form before) level row named)))
+
+    below_same : (level : ℕ) → SameItems (suc level) row row' → children form after row' ≡ children form before row
+    unfolding HaveSameItems
+    below_same level items =
+        named_flat (tree_held form after) row' ∙ ap (map (λ (e : Entry). e.child)) items ∙ sym (named_flat (tree_held form before) row)
+
+    -- the rows below stay, and so do all records
+    pub rest_regrouped : (level : ℕ) → SameItems level row row'
+        → ((m : ℕ) → 1 ≤ times m (blocks_below form before level row) → block_at after m ≡ block_at before m)
+        → blocks_below form after level row' ≡ blocks_below form before level row
+    rest_regrouped zero items same = refl
+    rest_regrouped (suc level) items same =
+        ap (blocks_of form after level) (below_same level items)
+        ∙ blocks_same form before after level (children form before row) (λ m some. holds_same form before after m (same m some))
+
+    pub records_regrouped : (level : ℕ) → SameItems level row row'
+        → ((m : ℕ) → 1 ≤ times m (blocks_below form before level row) → block_at after m ≡ block_at before m)
+        → records_of form after level row' ≡ records_of form before level row
+    unfolding HaveSameItems leaves_from
+    records_regrouped zero items same = items
+    records_regrouped (suc level) items same =
+        ap (records_of form after level) (below_same level items)
+        ∙ records_same form before after level (children form before row) (λ m some. holds_same form before after m (same m some))
+
+    pub rows_regrouped : (site : Site) (least level : ℕ) → SameItems level row row'
+        → ((m : ℕ) → 1 ≤ times m (blocks_below form before level row) → block_at after m ≡ block_at before m)
+        → AreLinked (IsWholeAt form site (tree_held form after) level least) (block_at after) level None row' None
+        → AreRowsOf form site (block_at before) (tree_held form before) least level row
+        → AreRowsOf form site (block_at after) (tree_held form after) least level row'
+    unfolding AreRowsOf IsWholeAt HaveSameItems
+    rows_regrouped site least zero items same linked rows = linked
+    rows_regrouped site least (suc level) items same linked rows = (
+      linked,
+      named_regrouped level items
+          (λ m some. holds_same form before after m (same m (omega (arith, some, times_row form before m level (children form before row))))) rows.1,
+      subst (AreRowsOf form site (block_at after) (tree_held form after) (half form level) level) (sym (below_same level items))
+          (are_rows_same form (block_at before) (block_at after) site (half form level) level (children form before row)
+          (λ m within. same m (times_of (blocks_of form before level (children form before row)) m within)) rows.2),
+    )

@@ -1,0 +1,136 @@
+-- What a whole block of an overlay says of its neighbours, and what stays where they are others.
+use Rattle.std.proofs.Common.{◌≡◌, ℕ, zero, suc, ◌+◌, ◌*◌, ◌^◌, ◌<◌, ◌≤◌, Bool, true, false, if◌then◌else◌, Option, Some, None, List, length, drop, refl, sym, ap, ◌∙◌, arith}
+use Rattle.std.proofs.lemmas.List.{length-drop}
+use Rattle.std.proofs.Math.Nat.{mul-le-mul_right}
+use Rattle.std.specs.List.{flat_map}
+use Rattle.xr_base.specs.declared.geometry.TheConstants.{BLOCKS, BLOCK_BYTES}
+use Rattle.xr_blocks.specs.BigEndianLaws.{dropped_bytes}
+use Rattle.xr_blocks.specs.BlockLaws.{fields_fill, length-items}
+use Rattle.xr_blocks.specs.Form.{Form, IsForm, header_size, pointer_size}
+use Rattle.xr_blocks.specs.Overlay.{AreBlocks, AreWhole, Blocks, block_at, pool_size}
+use Rattle.xr_blocks.specs.Rows.{Held}
+use Rattle.xr_blocks.specs.Tree.{site_of, tree_held}
+use Rattle.xr_blocks.specs.TreeBlock.{Entry, Place, Site, count_in, entries_in, header, leaf_bytes, neighbour, node_bytes, node_items, records_in, tree_block}
+use Rattle.xr_change.specs.Alters.{HoldsSame, IsWholeAt}
+use Rattle.xr_node.proofs.BlockTesting.{IsRead, Names, block_read, neighbour_again}
+use Rattle.xr_node.proofs.ItemTesting.{node_read}
+use Rattle.xr_node.specs.BlockTest.{left_in, right_in}
+use Rattle.xr_node.specs.NodeLaws.{length-entries}
+
+-- what is known of any overlay
+pub record AreKnown (b : Blocks) : Type 0 where
+  pub whole : AreWhole b.current
+  pub identified : length b.uuid ≡ 16
+  pub small : pool_size b ≤ BLOCKS
+
+pub known_of : (b : Blocks) → AreBlocks b → AreWhole b.current → length b.uuid ≡ 16 → AreKnown b
+known_of b all whole identified = record { whole = whole; identified = identified; small = omega (arith, all.within_image) }
+
+named_small : (long : Bool) (n : ℕ) → n < 2 ^ 31 → Names (if long then 8 else 4) (Some n)
+named_small true n small = omega arith
+named_small false n small = omega arith
+
+pub names_small : (long : Bool) (o : Option ℕ) → ((q : ℕ) → o ≡ Some q → q < 2 ^ 31) → Names (if long then 8 else 4) o
+names_small long None small = tt
+names_small long (Some q) small = named_small long q (small q refl)
+
+-- a block with its count and its items, of a leaf or of a node
+pub record IsBlockAt {X : Type 0} (form : Form X) (site : Site) (place : Place) (bytes : List ℕ) : Type 0 where
+  pub count : ℕ
+  pub items : List ℕ
+  pub block : bytes ≡ tree_block form site place count items
+  pub small : count < 2 ^ 16
+  pub room : header_size form + length items ≤ BLOCK_BYTES
+
+module _ {X : Type 0} (form : Form X) (laws : IsForm form) (b : Blocks) (known : AreKnown b) where
+  pub block_of : (least level : ℕ) (place : Place) → place.number < pool_size b
+      → IsWholeAt form (site_of b) (tree_held form b) level least place (block_at b place.number) → IsBlockAt form (site_of b) place (block_at b place.number)
+  unfolding IsWholeAt
+  block_of least zero place within whole =
+      let records : List X = records_in form (block_at b place.number) in
+      let size : length records * form.size ≤ form.leaf_max * form.size = mul-le-mul_right form.size whole.most_items in
+      record {
+        count = length records;
+        items = flat_map form.bytes_of records;
+        block = whole.whole;
+        small = omega (arith, whole.most_items, laws.leaf_few);
+        room = omega (arith, laws.leaf_fits, size, length-items form.bytes_of form.size records laws.sized);
+      }
+  block_of least (suc level) place within whole =
+      let block = known.whole place.number within in
+      let entries : List Entry = entries_in form (block_at b place.number) in
+      let node = node_read form laws (site_of b) least place (block_at b place.number) known.identified block.long whole in
+      let width : length entries * pointer_size form ≤ form.node_max * pointer_size form = mul-le-mul_right (pointer_size form) whole.most_items in
+      let counted : length entries * pointer_size form ≡ pointer_size form * count_in (block_at b place.number) =
+      ap (λ (n : ℕ). n * pointer_size form) (length-entries form (block_at b place.number)) ∙ omega arith in
+      record {
+        count = length entries;
+        items = node_items form entries;
+        block = whole.whole;
+        small = omega (arith, whole.most_items, laws.node_few);
+        room = omega (arith, laws.node_fits, width, counted, node.length_items);
+      }
+
+  pub read_of : (place : Place) (at : IsBlockAt form (site_of b) place (block_at b place.number))
+      → IsRead form (site_of b) place at.count at.items (block_at b place.number)
+  read_of place at = block_read form (site_of b) place at.count at.items (block_at b place.number) known.identified at.room at.block
+
+  -- it names its right neighbour
+  pub right_read : (least level : ℕ) (place : Place) → place.number < pool_size b → ((q : ℕ) → place.right ≡ Some q → q < pool_size b)
+      → IsWholeAt form (site_of b) (tree_held form b) level least place (block_at b place.number) → right_in form (block_at b place.number) ≡ place.right
+  right_read least level place within small whole =
+      let read = read_of place (block_of least level place within whole) in
+      read.same_right (names_small form.long place.right (λ q is. omega (arith, small q is, known.small)))
+
+  -- and both neighbours have the bytes of those that it names, be they small or not
+  pub links_read : (least level : ℕ) (place : Place) → place.number < pool_size b
+      → IsWholeAt form (site_of b) (tree_held form b) level least place (block_at b place.number)
+      → (neighbour (pointer_size form) (left_in form (block_at b place.number)) ≡ neighbour (pointer_size form) place.left)
+      × (neighbour (pointer_size form) (right_in form (block_at b place.number)) ≡ neighbour (pointer_size form) place.right)
+  links_read least level place within whole =
+      let bytes : List ℕ = block_at b place.number in
+      let p : ℕ = pointer_size form in
+      let fill = fields_fill form.long in
+      let block = known.whole place.number within in
+      let read = read_of place (block_of least level place within whole) in (
+        sym (neighbour_again form.long (drop 8 bytes) (omega (arith, fill, block.long, length-drop 8 bytes)) (dropped_bytes 8 bytes block.are_bytes)) ∙ read.left_part,
+        sym (neighbour_again form.long (drop (8 + p) bytes) (omega (arith, fill, block.long, length-drop (8 + p) bytes)) (dropped_bytes (8 + p) bytes block.are_bytes))
+            ∙ read.right_part,
+      )
+
+  -- a block whose neighbours alone are others holds what it held
+  pub relinked_holds : (after : Blocks) (place place' : Place) (at : IsBlockAt form (site_of b) place (block_at b place.number))
+      → block_at after place.number ≡ tree_block form (site_of b) place' at.count at.items → HoldsSame form b after place.number
+  relinked_holds after place place' at is =
+      let was = read_of place at in
+      let now = block_read form (site_of b) place' at.count at.items (block_at after place.number) known.identified at.room is in
+      let count : count_in (block_at after place.number) ≡ count_in (block_at b place.number) = now.same_count at.small ∙ sym (was.same_count at.small) in
+      let rest : drop (header_size form) (block_at after place.number) ≡ drop (header_size form) (block_at b place.number) = now.rest ∙ sym was.rest in
+      record { same_records = rw (count, rest) refl; same_entries = rw (count, rest) refl }
+
+-- a block's bytes tell of its neighbours no more than theirs
+block_moved : {X : Type 0} (form : Form X) (site : Site) (place place' : Place) (count : ℕ) (items : List ℕ) → place'.number ≡ place.number
+    → place'.level ≡ place.level → neighbour (pointer_size form) place'.left ≡ neighbour (pointer_size form) place.left
+    → neighbour (pointer_size form) place'.right ≡ neighbour (pointer_size form) place.right → tree_block form site place' count items ≡ tree_block form site place count items
+unfolding tree_block header
+block_moved form site place place' count items number level left right = rw (number, level, left, right) refl
+
+pub whole_moved : {X : Type 0} (form : Form X) (site : Site) (held : Held X) (least level : ℕ) (place place' : Place) (bytes : List ℕ) → place'.number ≡ place.number
+    → place'.level ≡ place.level → neighbour (pointer_size form) place'.left ≡ neighbour (pointer_size form) place.left
+    → neighbour (pointer_size form) place'.right ≡ neighbour (pointer_size form) place.right → IsWholeAt form site held level least place bytes
+    → IsWholeAt form site held level least place' bytes
+unfolding IsWholeAt
+whole_moved form site held least zero place place' bytes number level left right whole =
+    let same : held.records place'.number ≡ held.records place.number = ap held.records number in
+    record {
+      whole = whole.whole ∙ sym (block_moved form site place place' _ _ number level left right) ∙ ap (leaf_bytes form site place') (sym same);
+      least_items = omega (arith, whole.least_items, ap length same);
+      most_items = omega (arith, whole.most_items, ap length same);
+    }
+whole_moved form site held least (suc l) place place' bytes number level left right whole =
+    let same : held.entries place'.number ≡ held.entries place.number = ap held.entries number in
+    record {
+      whole = whole.whole ∙ sym (block_moved form site place place' _ _ number level left right) ∙ ap (node_bytes form site place') (sym same);
+      least_items = omega (arith, whole.least_items, ap length same);
+      most_items = omega (arith, whole.most_items, ap length same);
+    }

@@ -1,0 +1,63 @@
+use Rattle.std.proofs.Common.{◌≡◌, ℕ, ◌+◌, ◌-◌, ◌≤◌, [], ◌∷◌, length, suc, sym, subst, arith}
+use Rattle.xr_blocks.specs.Overlay.{block_at}
+use Rattle.xr_blocks.specs.Tree.{AreRecords, least_of_root, tree_records}
+use Rattle.xr_blocks.specs.TreeBlock.{entries_in}
+use Rattle.xr_change.proofs.InTree.{in_pool, is_under}
+use Rattle.xr_change.proofs.WholeRemoving.{leaf_root_stays, root_in_row, root_lowered, root_stays}
+use Rattle.xr_change.specs.Alters.{AreRowsIn}
+use Rattle.xr_change.specs.Lowers.{Lowers}
+use Rattle.xr_change.specs.Ways.{HasSome, IsInTree, item_count}
+use Rattle.xr_change.proofs.cut.lower.Goals as goal
+
+pub returns-then-root-eq0 : goal.returns-then-root-eq0
+returns-then-root-eq0 g c =
+    leaf_root_stays g.R.Record.form g.met.R.Record.is_form c.args.over.now c.args.root.level c.args.root.number c.requires.rows c.requires.rules c.if-root-eq0.true
+
+pub child_count-requires : goal.child_count-requires
+child_count-requires g c =
+    let form = g.R.Record.form in
+    let over = c.args.over.now in
+    let n = c.args.root.number in
+    let level = c.args.root.level in
+    let same : level ≡ level - 1 + 1 = omega (arith, c.if-root-eq0.false) in
+    is_under form over (level - 1 + 1) n (subst (λ (l : ℕ). IsInTree form over l n) same (root_in_row form over 0 level n c.requires.rows c.requires.rules))
+
+pub returns-then-child_count-gt1 : goal.returns-then-child_count-gt1
+returns-then-child_count-gt1 g c =
+    let form = g.R.Record.form in
+    let over = c.args.over.now in
+    let n = c.args.root.number in
+    let level = c.args.root.level in
+    let same : suc (level - 1) ≡ level = omega (arith, c.if-root-eq0.false) in
+    let many : 2 ≤ length (entries_in form (block_at over n)) = omega (arith, c.child_count.ensures, c.if-child_count-gt1.true) in
+    root_stays form g.met.R.Record.is_form over level n c.requires.rows c.requires.rules (subst (λ (l : ℕ). least_of_root l ≤ item_count form over l n) same many)
+
+pub child_block-number-requires-clause-here : goal.child_block-number-requires-clause-here
+child_block-number-requires-clause-here g c =
+    let form = g.R.Record.form in
+    let over = c.args.over.now in
+    let n = c.args.root.number in
+    let level = c.args.root.level in
+    let same : level ≡ level - 1 + 1 = omega (arith, c.if-root-eq0.false) in
+    subst (λ (l : ℕ). IsInTree form over l n) same (root_in_row form over 0 level n c.requires.rows c.requires.rules)
+
+pub give_block-requires : goal.give_block-requires
+give_block-requires g c =
+    in_pool g.R.Record.form c.args.over.now c.args.root.level c.args.root.number
+    (root_in_row g.R.Record.form c.args.over.now 0 c.args.root.level c.args.root.number c.requires.rows c.requires.rules)
+
+pub returns : goal.returns
+returns g c =
+    let form = g.R.Record.form in
+    let over = c.args.over.now in
+    let n = c.args.root.number in
+    let level = c.args.root.level in
+    let below = level - 1 in
+    let child = c.child_block-number.result in
+    let same : level ≡ suc below = omega (arith, c.if-root-eq0.false) in
+    let rows = subst (λ (l : ℕ). AreRowsIn form over 0 l (n ∷ [])) same c.requires.rows in
+    let rules = subst (λ (l : ℕ). AreRecords form (tree_records form over n l)) same c.requires.rules in
+    let some : 1 ≤ length (entries_in form (block_at over n)) = subst (λ (l : ℕ). HasSome form over l n) same c.requires.some in
+    let one : length (entries_in form (block_at over n)) ≡ 1 = omega (arith, some, c.child_count.ensures, c.if-child_count-gt1.false) in
+    subst (λ (l : ℕ). Lowers form over c.give_block.new.self n l child below) (sym same)
+    (root_lowered form g.met.R.Record.is_form over c.has_blocks.ensures.image below n child rows rules one c.child_block-number.ensures.child c.give_block.new.self c.give_block.ensures)

@@ -1,0 +1,10 @@
+pub mod Alters
+pub mod Items
+pub mod Lowers
+pub mod Rearranges
+pub mod Regroups
+pub mod Rooms
+pub mod Sets
+pub mod Spares
+pub mod Ways
+pub mod Writes

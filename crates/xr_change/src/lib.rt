@@ -1,0 +1,21 @@
+//! Changes of trees: a record more, one less, or one in the place of another.
+#![tactic(auto)]
+
+mod cut;
+mod deal;
+mod grow;
+mod insertion;
+mod leaves;
+mod mend;
+mod one_block;
+mod rearrange;
+mod removal;
+mod replacement;
+mod room;
+mod root;
+mod spare;
+mod way;
+
+pub use cut::{remove, replace};
+pub use grow::insert;
+pub use root::Root;

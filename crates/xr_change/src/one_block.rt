@@ -1,0 +1,182 @@
+//! What a rearrangement writes of an overlay in one step: one block of some items, a link, or a child's key.
+ghost use Rattle.std.specs.Prelude.{◌≡◌, ℕ, ◌+◌, ◌-◌, ◌*◌, ◌^◌, ◌<◌, ◌≤◌, ◌++◌, [], ◌∷◌, List, Some, length, take, drop};
+ghost use Rattle.std.specs.List.{insert, remove};
+ghost use Rattle.std.specs.Option.{option_to_list};
+ghost use Rattle.xr_blocks.specs.Form.{key_size};
+ghost use Rattle.xr_blocks.specs.Overlay.{block_at, pool_size};
+ghost use Rattle.xr_blocks.specs.Rows.{held_in, key_held};
+ghost use Rattle.xr_blocks.specs.Tree.{site_of, tree_held};
+ghost use Rattle.xr_blocks.specs.TreeBlock.{Entry, Place, Site, count_in, entries_in};
+ghost use Rattle.xr_change.specs.Items.{HasKey, IsBlockOf, Item};
+ghost use Rattle.xr_change.specs.Rearranges.{IsRelinked, entry_for};
+ghost use Rattle.xr_change.specs.Ways.{child_of, item_most};
+ghost use Rattle.xr_change.specs.Writes.{Writes};
+ghost use Rattle.xr_edit.specs.Edit.{IsHeader, IsNodeOf, with_key};
+
+use xr_blocks::{Block, Overlay, Record};
+use xr_edit::{
+    Header, cut_entry, gather_leaf, gather_node, put_entry, put_key_of_leaf, put_key_of_node,
+    set_key, set_left,
+};
+use xr_node::key_test::{KEY_ROOM, key_fits};
+use xr_node::read::child_at;
+
+/// A copy of a block.
+pub(crate) fn copy_of(over: &Overlay, n: u32) -> Block
+    requires { n < pool_size over.now }
+    ensures { result ≡ block_at over.now n }
+{
+    *over.block(n)
+}
+
+/// A neighbour's block as a number of the pool.
+pub(crate) fn pool_number(near: Option<u64>) -> Option<u32>
+    requires { (q : ℕ) → near ≡ Some q → q < 2 ^ 32 }
+    ensures { result ≡ near }
+{
+    match near {
+        Some(n) => Some(n as u32),
+        None => None,
+    }
+}
+
+/// The block of a child.
+pub(crate) fn child_block<R: Record>(over: &Overlay, n: u32, k: usize) -> u32
+    requires here { n < pool_size over.now }
+    requires within { k < length (entries_in R.form (block_at over.now n)) }
+    requires few { length (entries_in R.form (block_at over.now n)) ≤ R.form.node_max }
+    requires small { child_of R.form over.now n k < 2 ^ 32 }
+    ensures { result ≡ child_of R.form over.now n k }
+{
+    child_at::<R>(over.block(n), k) as u32
+}
+
+/// Writes a block of the items from a place to another of two blocks.
+fn put_items<R: Record>(
+    out: &mut Block,
+    fields: &Header,
+    level: u32,
+    first: &Block,
+    second: &Block,
+    from: usize,
+    to: usize,
+)
+    requires level { fields.now.level < 2 ^ 16 }
+    requires order { from ≤ to }
+    requires within { to ≤ count_in first.now + count_in second.now }
+    requires few { (count_in first.now ≤ item_most R.form level) × (count_in second.now ≤ item_most R.form level) }
+    requires room { to - from ≤ item_most R.form level }
+    ensures { (site : Site) (place one other : Place) (xs ys : List (Item R level)) → IsHeader fields.now site place
+        → IsBlockOf R.form level site one xs first.now → IsBlockOf R.form level site other ys second.now
+        → IsBlockOf R.form level site place (take (to - from) (drop from (xs ++ ys))) out.new }
+{
+    if level == 0 {
+        gather_leaf::<R>(out, fields, first, second, from, to);
+    } else {
+        gather_node::<R>(out, fields, first, second, from, to);
+    }
+}
+
+/// Writes a block of a level of the items from a place to another of two blocks, the second's behind the first's, with two
+/// neighbours.
+pub(crate) fn gather<R: Record>(
+    over: &mut Overlay,
+    n: u32,
+    level: u32,
+    left: Option<u32>,
+    right: Option<u32>,
+    first: &Block,
+    second: &Block,
+    from: usize,
+    to: usize,
+)
+    requires here { n < pool_size over.old }
+    requires level { level < 2 ^ 16 }
+    requires order { from ≤ to }
+    requires within { to ≤ count_in first.now + count_in second.now }
+    requires few { (count_in first.now ≤ item_most R.form level) × (count_in second.now ≤ item_most R.form level) }
+    requires room { to - from ≤ item_most R.form level }
+    ensures writes { Writes over.old over.new (n ∷ []) }
+    ensures block { (one other : Place) (xs ys : List (Item R level)) → IsBlockOf R.form level (site_of over.old) one xs first.now
+        → IsBlockOf R.form level (site_of over.old) other ys second.now
+        → IsBlockOf R.form level (site_of over.old) (record { number = n; level = level; left = left; right = right })
+        (take (to - from) (drop from (xs ++ ys))) (block_at over.new n) }
+{
+    over.has_blocks();
+    let fields = Header::new(over, n, level, left, right);
+    put_items::<R>(over.block_mut(n), &fields, level, first, second, from, to);
+}
+
+/// Gives the block behind one, if there is one, another left neighbour.
+pub(crate) fn relink<R: Record>(over: &mut Overlay, next: Option<u32>, left: u32)
+    requires { (q : ℕ) → next ≡ Some q → q < pool_size over.old }
+    ensures writes { Writes over.old over.new (option_to_list next) }
+    ensures relinked { (q old : ℕ) → next ≡ Some q → IsRelinked R.form over.old over.new q old left }
+{
+    over.has_blocks();
+    if let Some(n) = next {
+        set_left::<R>(over.block_mut(n), Some(left));
+    }
+}
+
+/// Writes the key that a block gives to its parent.
+pub(crate) fn put_key<R: Record>(block: &Block, level: u32, out: &mut [u8])
+    requires keyed { HasKey R.form level block.now }
+    requires long { length out.old ≡ key_size R.form }
+    ensures { (n : ℕ) (at : ℕ → List ℕ) → at n ≡ block.now → out.new ≡ key_held R.form (held_in R.form at) level n }
+{
+    if level == 0 {
+        put_key_of_leaf::<R>(block, out);
+    } else {
+        put_key_of_node::<R>(block, out);
+    }
+}
+
+/// Gives a child of a node the key that its block has now.
+pub(crate) fn set_child_key<R: Record>(over: &mut Overlay, n: u32, level: u32, k: usize, c: u32)
+    requires here { (n < pool_size over.old) × (c < pool_size over.old) }
+    requires keyed { HasKey R.form level (block_at over.old c) }
+    requires within { k < count_in (block_at over.old n) }
+    requires few { count_in (block_at over.old n) ≤ R.form.node_max }
+    ensures writes { Writes over.old over.new (n ∷ []) }
+    ensures node { (site : Site) (place : Place) (entries : List Entry) → IsNodeOf R.form site place entries (block_at over.old n)
+        → IsNodeOf R.form site place (with_key k (key_held R.form (tree_held R.form over.old) level c) entries) (block_at over.new n) }
+{
+    over.has_blocks();
+    key_fits::<R>();
+    let mut room = [0; KEY_ROOM];
+    let key = &mut room[..R::LOW + R::HIGH];
+    put_key::<R>(over.block(c), level, key);
+    set_key::<R>(over.block_mut(n), k, key);
+}
+
+/// Puts a block with its key among the children of a node that isn't full.
+pub(crate) fn put_child<R: Record>(over: &mut Overlay, n: u32, level: u32, k: usize, m: u32)
+    requires here { (n < pool_size over.old) × (m < pool_size over.old) }
+    requires keyed { HasKey R.form level (block_at over.old m) }
+    requires within { k ≤ count_in (block_at over.old n) }
+    requires room { count_in (block_at over.old n) < R.form.node_max }
+    ensures writes { Writes over.old over.new (n ∷ []) }
+    ensures node { (site : Site) (place : Place) (entries : List Entry) → IsNodeOf R.form site place entries (block_at over.old n)
+        → IsNodeOf R.form site place (insert entries k (entry_for R.form over.old level m)) (block_at over.new n) }
+{
+    over.has_blocks();
+    key_fits::<R>();
+    let mut room = [0; KEY_ROOM];
+    let key = &mut room[..R::LOW + R::HIGH];
+    put_key::<R>(over.block(m), level, key);
+    put_entry::<R>(over.block_mut(n), k, key, m);
+}
+
+/// Cuts a child out of a node.
+pub(crate) fn cut_child<R: Record>(over: &mut Overlay, n: u32, k: usize)
+    requires here { n < pool_size over.old }
+    requires within { k < count_in (block_at over.old n) }
+    requires few { count_in (block_at over.old n) ≤ R.form.node_max }
+    ensures writes { Writes over.old over.new (n ∷ []) }
+    ensures node { (site : Site) (place : Place) (entries : List Entry) → IsNodeOf R.form site place entries (block_at over.old n)
+        → IsNodeOf R.form site place (remove entries k) (block_at over.new n) }
+{
+    over.has_blocks();
+    cut_entry::<R>(over.block_mut(n), k);
+}

@@ -1,0 +1,20 @@
+-- A run that is free is a record less by block.
+use Rattle.std.proofs.Common.{refl, arith}
+use Rattle.xr_blocks.specs.FreeRuns.{block_form, block_span, by_block}
+use Rattle.xr_space.proofs.Frames.{block_step, sizes_stay}
+use Rattle.xr_space.proofs.RunRecords.{by_block_runs}
+use Rattle.xr_space.proofs.RunSets.{loses}
+use Rattle.xr_space.proofs.space.Space.remove_by_block.Goals as goal
+
+pub returns-clause-step : goal.returns-clause-step
+returns-clause-step c =
+    block_step c.args.over.now c.remove.new.over c.args.self.now c.remove.new.self c.requires.space c.remove.ensures.tree c.remove.ensures.frame 0
+    (omega (arith, c.remove.ensures.room))
+
+pub returns-clause-set : goal.returns-clause-set
+returns-clause-set c =
+    loses block_form block_span by_block_runs by_block (λ s. refl) _ _ c.args.run c.requires.space.blocks.records c.requires.held c.remove.ensures.set
+
+pub returns-clause-sizes : goal.returns-clause-sizes
+returns-clause-sizes c =
+    sizes_stay c.args.over.now c.remove.new.over c.args.self.now c.remove.new.self c.requires.space c.remove.ensures.tree c.remove.ensures.frame

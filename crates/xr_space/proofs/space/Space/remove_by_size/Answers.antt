@@ -1,0 +1,20 @@
+-- A run is a record less by size.
+use Rattle.std.proofs.Common.{refl, arith}
+use Rattle.xr_blocks.specs.FreeRuns.{size_form, size_span, by_size}
+use Rattle.xr_space.proofs.Frames.{blocks_stay, size_step}
+use Rattle.xr_space.proofs.RunRecords.{by_size_runs}
+use Rattle.xr_space.proofs.RunSets.{loses}
+use Rattle.xr_space.proofs.space.Space.remove_by_size.Goals as goal
+
+pub returns-clause-step : goal.returns-clause-step
+returns-clause-step c =
+    size_step c.args.over.now c.remove.new.over c.args.self.now c.remove.new.self c.requires.space c.remove.ensures.tree c.remove.ensures.frame 0
+    (omega (arith, c.remove.ensures.room))
+
+pub returns-clause-set : goal.returns-clause-set
+returns-clause-set c =
+    loses size_form size_span by_size_runs by_size (λ s. refl) _ _ c.args.run c.requires.space.sizes.records c.requires.held c.remove.ensures.set
+
+pub returns-clause-blocks : goal.returns-clause-blocks
+returns-clause-blocks c =
+    blocks_stay c.args.over.now c.remove.new.over c.args.self.now c.remove.new.self c.requires.space c.remove.ensures.tree c.remove.ensures.frame

@@ -1,0 +1,30 @@
+-- A run is in the place of one that it meets or touches, by block.
+use Rattle.std.proofs.Common.{◌≡◌, refl, ap, arith}
+use Rattle.xr_blocks.specs.declared.free_runs.ByBlock.{ByBlock}
+use Rattle.xr_blocks.specs.FreeRuns.{block_form, block_span, by_block}
+use Rattle.xr_space.specs.Space.{block_records}
+use Rattle.xr_space.proofs.Frames.{block_step, sizes_stay}
+use Rattle.xr_space.proofs.RunRecords.{by_block_runs, replaced_records}
+use Rattle.xr_space.proofs.RunSets.{swaps}
+use Rattle.xr_space.proofs.space.Space.replace_by_block.Goals as goal
+
+pub replace-requires-clause-rules : goal.replace-requires-clause-rules
+replace-requires-clause-rules c =
+    replaced_records (by_block c.args.old) (by_block c.args.new) (block_records c.args.over.now c.args.self.now) c.requires.space.blocks.records
+    c.requires.held c.requires.good
+    (λ (x : ByBlock) within other. c.requires.fits (block_span x) within (λ (same : block_span x ≡ c.args.old). other (ap by_block same)))
+    c.requires.near
+
+pub returns-clause-step : goal.returns-clause-step
+returns-clause-step c =
+    block_step c.args.over.now c.replace.new.over c.args.self.now c.replace.new.self c.requires.space c.replace.ensures.tree c.replace.ensures.frame 0
+    (omega (arith, c.replace.ensures.room))
+
+pub returns-clause-set : goal.returns-clause-set
+returns-clause-set c =
+    swaps block_form block_span by_block_runs by_block (λ s. refl) _ _ c.args.old c.args.new c.requires.space.blocks.records c.requires.held
+    c.replace.ensures.set
+
+pub returns-clause-sizes : goal.returns-clause-sizes
+returns-clause-sizes c =
+    sizes_stay c.args.over.now c.replace.new.over c.args.self.now c.replace.new.self c.requires.space c.replace.ensures.tree c.replace.ensures.frame

@@ -1,0 +1,138 @@
+//! Changes of one run in both trees of the free blocks.
+ghost use Rattle.std.specs.Prelude.{◌≡◌, ◌≢◌, ◌≤◌, true, false};
+ghost use Rattle.xr_blocks.specs.declared.span.Span.{Span};
+ghost use Rattle.xr_blocks.specs.Overlay.{free_count};
+ghost use Rattle.xr_blocks.specs.Spans.{apart, is_group_run};
+ghost use Rattle.xr_space.specs.Space.{ArePaired, Gains, IsFreeRun, IsSized, IsSpace, IsStep, Loses, Swaps, block_records, size_records};
+
+use crate::space::Space;
+use xr_blocks::{ByBlock, BySize, Overlay, Span};
+
+impl Space {
+    fn insert_by_block(&mut self, over: &mut Overlay, run: Span)
+        requires space { IsSpace over.old self.old }
+        requires good { is_group_run run ≡ true }
+        requires fits { (other : Span) → IsFreeRun over.old self.old other → apart other run ≡ true }
+        requires room { 2 ≤ free_count over.old }
+        ensures step { IsStep over.old self.old over.new self.new 2 }
+        ensures set { Gains (IsFreeRun over.old self.old) run (IsFreeRun over.new self.new) }
+        ensures sizes { size_records over.new self.new ≡ size_records over.old self.old }
+    {
+        let record = ByBlock {
+            start: run.start,
+            len: run.len,
+        };
+        self.by_block.insert(over, record);
+    }
+
+    fn remove_by_block(&mut self, over: &mut Overlay, run: Span)
+        requires space { IsSpace over.old self.old }
+        requires held { IsFreeRun over.old self.old run }
+        ensures step { IsStep over.old self.old over.new self.new 0 }
+        ensures set { Loses (IsFreeRun over.old self.old) run (IsFreeRun over.new self.new) }
+        ensures sizes { size_records over.new self.new ≡ size_records over.old self.old }
+    {
+        let record = ByBlock {
+            start: run.start,
+            len: run.len,
+        };
+        self.by_block.remove(over, &record);
+    }
+
+    fn replace_by_block(&mut self, over: &mut Overlay, old: Span, new: Span)
+        requires space { IsSpace over.old self.old }
+        requires held { IsFreeRun over.old self.old old }
+        requires good { is_group_run new ≡ true }
+        requires fits { (other : Span) → IsFreeRun over.old self.old other → other ≢ old → apart other new ≡ true }
+        requires near { apart old new ≡ false }
+        ensures step { IsStep over.old self.old over.new self.new 0 }
+        ensures set { Swaps (IsFreeRun over.old self.old) old new (IsFreeRun over.new self.new) }
+        ensures sizes { size_records over.new self.new ≡ size_records over.old self.old }
+    {
+        let held = ByBlock {
+            start: old.start,
+            len: old.len,
+        };
+        let record = ByBlock {
+            start: new.start,
+            len: new.len,
+        };
+        self.by_block.replace(over, &held, record);
+    }
+
+    fn insert_by_size(&mut self, over: &mut Overlay, run: Span)
+        requires space { IsSpace over.old self.old }
+        requires good { is_group_run run ≡ true }
+        requires fits { (other : Span) → IsSized over.old self.old other → apart other run ≡ true }
+        requires room { 2 ≤ free_count over.old }
+        ensures step { IsStep over.old self.old over.new self.new 2 }
+        ensures set { Gains (IsSized over.old self.old) run (IsSized over.new self.new) }
+        ensures blocks { block_records over.new self.new ≡ block_records over.old self.old }
+    {
+        let record = BySize {
+            start: run.start,
+            len: run.len,
+        };
+        self.by_size.insert(over, record);
+    }
+
+    fn remove_by_size(&mut self, over: &mut Overlay, run: Span)
+        requires space { IsSpace over.old self.old }
+        requires held { IsSized over.old self.old run }
+        ensures step { IsStep over.old self.old over.new self.new 0 }
+        ensures set { Loses (IsSized over.old self.old) run (IsSized over.new self.new) }
+        ensures blocks { block_records over.new self.new ≡ block_records over.old self.old }
+    {
+        let record = BySize {
+            start: run.start,
+            len: run.len,
+        };
+        self.by_size.remove(over, &record);
+    }
+
+    /// Adds a run that stands apart from all others.
+    pub(crate) fn add_run(&mut self, over: &mut Overlay, run: Span)
+        requires space { IsSpace over.old self.old }
+        requires paired { ArePaired over.old self.old }
+        requires good { is_group_run run ≡ true }
+        requires fits { (other : Span) → IsFreeRun over.old self.old other → apart other run ≡ true }
+        requires room { 4 ≤ free_count over.old }
+        ensures step { IsStep over.old self.old over.new self.new 4 }
+        ensures paired { ArePaired over.new self.new }
+        ensures set { Gains (IsFreeRun over.old self.old) run (IsFreeRun over.new self.new) }
+    {
+        self.insert_by_block(over, run);
+        self.insert_by_size(over, run);
+    }
+
+    /// Takes a run out.
+    pub(crate) fn drop_run(&mut self, over: &mut Overlay, run: Span)
+        requires space { IsSpace over.old self.old }
+        requires paired { ArePaired over.old self.old }
+        requires held { IsFreeRun over.old self.old run }
+        ensures step { IsStep over.old self.old over.new self.new 0 }
+        ensures paired { ArePaired over.new self.new }
+        ensures set { Loses (IsFreeRun over.old self.old) run (IsFreeRun over.new self.new) }
+    {
+        self.remove_by_block(over, run);
+        self.remove_by_size(over, run);
+    }
+
+    /// Puts a run in the place of another that it meets or touches. It stands apart from all others.
+    pub(crate) fn swap_run(&mut self, over: &mut Overlay, old: Span, new: Span)
+        requires space { IsSpace over.old self.old }
+        requires paired { ArePaired over.old self.old }
+        requires held { IsFreeRun over.old self.old old }
+        requires good { is_group_run new ≡ true }
+        requires fits { (other : Span) → IsFreeRun over.old self.old other → other ≢ old → apart other new ≡ true }
+        requires near { apart old new ≡ false }
+        requires room { 2 ≤ free_count over.old }
+        ensures step { IsStep over.old self.old over.new self.new 2 }
+        ensures paired { ArePaired over.new self.new }
+        ensures set { Swaps (IsFreeRun over.old self.old) old new (IsFreeRun over.new self.new) }
+    {
+        self.replace_by_block(over, old, new);
+        self.remove_by_size(over, old);
+        self.insert_by_size(over, new);
+    }
+}

@@ -1,0 +1,10 @@
+//! The free blocks of a group, in two trees: by their places, and by the lengths of their runs.
+#![tactic(auto)]
+
+mod changes;
+mod pairing;
+mod space;
+#[cfg(test)]
+mod tests;
+
+pub use space::Space;

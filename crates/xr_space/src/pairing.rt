@@ -1,0 +1,108 @@
+//! Whether the two trees of the free blocks hold the same runs.
+ghost use Rattle.std.specs.Prelude.{◌≡◌, ◌<◌, ◌↔◌, true, false, IsNone, IfSome, IsTrue};
+ghost use Rattle.std.specs.Ordering.{is_lt};
+ghost use Rattle.xr_blocks.specs.declared.span.Span.{Span};
+ghost use Rattle.xr_blocks.specs.FreeRuns.{size_order};
+ghost use Rattle.xr_space.specs.Space.{ArePaired, IsFreeRun, IsNextFree, IsNextSized, IsSized, IsSpace};
+
+use crate::space::Space;
+use xr_blocks::{ByBlock, BySize, Overlay, Span};
+
+impl Space {
+    fn holds_by_block(&self, over: &Overlay, run: Span) -> bool
+        requires { IsSpace over.now self.now }
+        ensures { IsTrue result ↔ IsFreeRun over.now self.now run }
+    {
+        let record = ByBlock {
+            start: run.start,
+            len: run.len,
+        };
+        match self.by_block.at_most(over, &record) {
+            Some(found) => found.start == run.start && found.len == run.len,
+            None => false,
+        }
+    }
+
+    fn holds_by_size(&self, over: &Overlay, run: Span) -> bool
+        requires { IsSpace over.now self.now }
+        ensures { IsTrue result ↔ IsSized over.now self.now run }
+    {
+        let record = BySize {
+            start: run.start,
+            len: run.len,
+        };
+        match self.by_size.at_most(over, &record) {
+            Some(found) => found.start == run.start && found.len == run.len,
+            None => false,
+        }
+    }
+
+    /// The first run by block that begins at a place or behind it.
+    fn next_by_block(&self, over: &Overlay, place: u32) -> Option<Span>
+        requires { IsSpace over.now self.now }
+        ensures none { IsNone result → (run : Span) → IsFreeRun over.now self.now run → run.start < place }
+        ensures next { IfSome result (λ run. IsNextFree over.now self.now place run) }
+    {
+        let from = ByBlock {
+            start: place,
+            len: 0,
+        };
+        let ByBlock { start, len } = self.by_block.at_least(over, &from)?;
+        Some(Span { start, len })
+    }
+
+    /// The first run by size that isn't below another.
+    fn next_by_size(&self, over: &Overlay, from: Span) -> Option<Span>
+        requires { IsSpace over.now self.now }
+        ensures none { IsNone result → (run : Span) → IsSized over.now self.now run → is_lt (size_order run from) ≡ true }
+        ensures next { IfSome result (λ run. IsNextSized over.now self.now from run) }
+    {
+        let from = BySize {
+            start: from.start,
+            len: from.len,
+        };
+        let BySize { start, len } = self.by_size.at_least(over, &from)?;
+        Some(Span { start, len })
+    }
+
+    /// Whether each run by block stands also in the tree by size.
+    fn are_sized(&self, over: &Overlay) -> bool
+        requires { IsSpace over.now self.now }
+        ensures { IsTrue result ↔ ((run : Span) → IsFreeRun over.now self.now run → IsSized over.now self.now run) }
+    {
+        let mut place = 0;
+        while let Some(run) = self.next_by_block(over, place) {
+            if !self.holds_by_size(over, run) {
+                return false;
+            }
+            place = run.start + 1;
+        }
+        true
+    }
+
+    /// Whether each run by size stands also in the tree by block.
+    fn are_free(&self, over: &Overlay) -> bool
+        requires { IsSpace over.now self.now }
+        ensures { IsTrue result ↔ ((run : Span) → IsSized over.now self.now run → IsFreeRun over.now self.now run) }
+    {
+        let mut from = Span { start: 0, len: 0 };
+        while let Some(run) = self.next_by_size(over, from) {
+            if !self.holds_by_block(over, run) {
+                return false;
+            }
+            from = Span {
+                start: run.start + 1,
+                len: run.len,
+            };
+        }
+        true
+    }
+
+    /// Whether the two trees hold the same runs.
+    pub fn paired(&self, over: &Overlay) -> bool
+        requires { IsSpace over.now self.now }
+        ensures { IsTrue result ↔ ArePaired over.now self.now }
+    {
+        self.are_sized(over) && self.are_free(over)
+    }
+}
