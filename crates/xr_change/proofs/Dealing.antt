@@ -3,17 +3,17 @@ use Rattle.std.proofs.Common.{◌≡◌, ℕ, ◌+◌, ◌-◌, ◌/◌, ◌≤�
 use Rattle.std.proofs.lemmas.List.{length-append, length-drop, length-take-le}
 use Rattle.std.specs.Option.{option_to_list}
 use Rattle.xr_blocks.proofs.Times.{times_other}
-use Rattle.xr_blocks.specs.Form.{Form, IsForm}
+use Rattle.xr_blocks.specs.Form.{Form, IsForm, pointer_size}
 use Rattle.xr_blocks.specs.Overlay.{Blocks, block_at}
-use Rattle.xr_blocks.specs.Rows.{half}
+use Rattle.xr_blocks.specs.Rows.{AreLinked, half}
 use Rattle.xr_blocks.specs.Times.{times}
-use Rattle.xr_blocks.specs.Tree.{site_of}
-use Rattle.xr_blocks.specs.TreeBlock.{Place, Site, count_in, tree_block}
-use Rattle.xr_change.proofs.ItemFacts.{Gathers, block_count, block_few, block_items, block_key, block_whole, half_is, items_counted, merge_same, share_same, split_same, whole_least, whole_now}
-use Rattle.xr_change.proofs.Neighbours.{AreKnown}
-use Rattle.xr_change.proofs.Written.{writes_then}
-use Rattle.xr_change.specs.Items.{HasKey, IsBlockOf, IsPlaced, Item, MergesItems, SharesItems, SplitsItems, items_in}
-use Rattle.xr_change.specs.Rearranges.{IsRelinked, IsWholeNow, place_of}
+use Rattle.xr_blocks.specs.Tree.{site_of, tree_held}
+use Rattle.xr_blocks.specs.TreeBlock.{Place, Site, count_in, neighbour, tree_block}
+use Rattle.xr_change.specs.Alters.{AreKnown, IsWholeAt}
+use Rattle.xr_change.proofs.ItemFacts.{Gathers, IsWholeNow, block_count, block_few, block_items, block_key, block_whole, half_is, items_counted, one_flat, two_flat, whole_least, whole_now}
+use Rattle.xr_change.proofs.Neighbours.{links_read, whole_moved}
+use Rattle.xr_change.proofs.Written.{for_one, for_two, writes_then}
+use Rattle.xr_change.specs.Regroups.{Deals, HasKey, IsBlockOf, IsPlaced, IsRelinked, Item, items_in, place_of}
 use Rattle.xr_change.specs.Ways.{item_count, item_most}
 use Rattle.xr_change.specs.Writes.{Writes}
 use Rattle.xr_edit.proofs.EditLaws.{first_stretch, last_stretch, other_stretch, whole_stretch}
@@ -87,7 +87,8 @@ module _ {X : Type 0} (form : Form X) (laws : IsForm form) (a : Blocks) (known :
     pub split_dealt : Gathers form level (site_of a) (block_at a c) (block_at a c) 0 (count / 2) low_place (block_at b c)
         → Gathers form level (site_of b) (block_at a c) (block_at a c) (count / 2) count high_place (block_at d m)
         → ((q old : ℕ) → right_in form (block_at a c) ≡ Some q → IsRelinked form d z q old m)
-        → SplitsItems form a z level c m
+        → Deals form a z level (c ∷ []) (c ∷ m ∷ []) (c ∷ m ∷ option_to_list (right_in form (block_at a c))) c m
+    unfolding AreLinked
     split_dealt low high linked =
         let next : Option ℕ = right_in form (block_at a c) in
         let xs : List (Item X level) = items_of c in
@@ -114,13 +115,21 @@ module _ {X : Type 0} (form : Form X) (laws : IsForm form) (a : Blocks) (known :
         let high_many : half form level ≤ length (drop h xs) = omega (arith, halved, high_long) in
         record {
           writes = writes_then a d z (c ∷ m ∷ []) (writes_then a b d (c ∷ []) first (m ∷ []) second) (option_to_list next) third;
-          low = dealt_whole z low_place (take h xs) low_many low_of;
-          high = dealt_whole z high_place (drop h xs) high_many high_of;
-          keyed = (dealt_key z low_place (take h xs) low_many low_of, dealt_key z high_place (drop h xs) high_many high_of);
-          items = split_same form a z c m level
-              (ap (λ (is : List (Item X level)). is ++ items_in form level (block_at z m)) (dealt_items z low_place (take h xs) low_many low_of)
+          linked = λ left right was.
+              let links = links_read form laws a known (half form level) level (record { number = c; level = level; left = left; right = right }) placed.below was.0 in (
+                whole_moved form (site_of a) (tree_held form z) (half form level) level low_place (record { number = c; level = level; left = left; right = Some m }) (block_at z c)
+                    refl refl (sym links.0) refl (dealt_whole z low_place (take h xs) low_many low_of),
+                (
+                  whole_moved form (site_of a) (tree_held form z) (half form level) level high_place (record { number = m; level = level; left = Some c; right = right }) (block_at z m)
+                      refl refl refl (sym links.1) (dealt_whole z high_place (drop h xs) high_many high_of),
+                  tt,
+                ),
+              );
+          keyed = for_two (λ (x : ℕ). HasKey form level (block_at z x)) c m (dealt_key z low_place (take h xs) low_many low_of) (dealt_key z high_place (drop h xs) high_many high_of);
+          items = two_flat (λ (x : ℕ). items_in form level (block_at z x)) c m
+              ∙ ap (λ (is : List (Item X level)). is ++ items_in form level (block_at z m)) (dealt_items z low_place (take h xs) low_many low_of)
               ∙ ap (λ (is : List (Item X level)). take h xs ++ is) (dealt_items z high_place (drop h xs) high_many high_of)
-              ∙ take-append-drop h xs);
+              ∙ take-append-drop h xs ∙ sym (one_flat (λ (x : ℕ). items_in form level (block_at a x)) c);
           next = λ q right.
               relinked_between form a d z z q c m
               (second.others q (times_other q m [] (λ same. beside q right (sym same))) ∙ first.others q (times_other q c [] (λ same. placed.right_apart q right (sym same))))
@@ -142,12 +151,24 @@ module _ {X : Type 0} (form : Form X) (laws : IsForm form) (a : Blocks) (known :
     all_long =
         omega (arith, counted, next_counted, (placed_count c placed).0, (placed_count d behind).0, items_counted form a level c, items_counted form a level d)
 
-    pub share_dealt : (c ≡ d → ⊥) → (count : ℕ) (b z : Blocks) → Writes a b (c ∷ []) → Writes b z (d ∷ [])
+    -- what the neighbours of both are
+    pair_links : (left right : Option ℕ) → AreLinked (IsWholeAt form (site_of a) (tree_held form a) level (half form level)) (block_at a) level left (c ∷ d ∷ []) right
+        → (let place = place_of form a level c in let other = place_of form a level d in let p = pointer_size form in
+        (neighbour p place.left ≡ neighbour p left) × (neighbour p place.right ≡ neighbour p (Some d))
+        × (neighbour p other.left ≡ neighbour p (Some c)) × (neighbour p other.right ≡ neighbour p right))
+    unfolding AreLinked
+    pair_links left right was =
+        let one = links_read form laws a known (half form level) level (record { number = c; level = level; left = left; right = Some d }) placed.below was.0 in
+        let two = links_read form laws a known (half form level) level (record { number = d; level = level; left = Some c; right = right }) behind.below was.1.0 in
+        (one.0, one.1, two.0, two.1)
+
+    pub share_dealt : (c ≡ d → ⊥) → ((q : ℕ) → right_in form (block_at a d) ≡ Some q → q ≡ c → ⊥) → (count : ℕ) (b z : Blocks) → Writes a b (c ∷ []) → Writes b z (d ∷ [])
         → half form level ≤ count → half form level + count ≤ item_count form a level c + item_count form a level d
         → Gathers form level (site_of a) (block_at a c) (block_at a d) 0 count (place_of form a level c) (block_at b c)
         → Gathers form level (site_of b) (block_at a c) (block_at a d) count total (place_of form a level d) (block_at z d)
-        → SharesItems form a z level c d × (item_count form z level c ≡ count)
-    share_dealt apart count b z first second many_low many_high low high =
+        → Deals form a z level (c ∷ d ∷ []) (c ∷ d ∷ []) (c ∷ d ∷ []) d d × (item_count form z level c ≡ count)
+    unfolding AreLinked
+    share_dealt apart beside count b z first second many_low many_high low high =
         let all = all_long in
         let joined : List (Item X level) = xs ++ ys in
         let both : length joined ≡ total = length-append xs ys ∙ sym all in
@@ -170,13 +191,26 @@ module _ {X : Type 0} (form : Form X) (laws : IsForm form) (a : Blocks) (known :
         let low_items = dealt_items z (place_of form a level c) (take count joined) low_many low_of in (
           record {
             writes = writes_then a b z (c ∷ []) first (d ∷ []) second;
-            low = dealt_whole z (place_of form a level c) (take count joined) low_many low_of;
-            high = dealt_whole z (place_of form a level d) (drop count joined) high_many high_of;
-            keyed = (dealt_key z (place_of form a level c) (take count joined) low_many low_of, dealt_key z (place_of form a level d) (drop count joined) high_many high_of);
-            items = share_same form a z c d level
-                (ap (λ (is : List (Item X level)). is ++ items_in form level (block_at z d)) low_items
+            linked = λ left right was.
+                let links = pair_links left right was in (
+                  whole_moved form (site_of a) (tree_held form z) (half form level) level (place_of form a level c)
+                      (record { number = c; level = level; left = left; right = Some d }) (block_at z c)
+                      refl refl (sym links.0) (sym links.1) (dealt_whole z (place_of form a level c) (take count joined) low_many low_of),
+                  (
+                    whole_moved form (site_of a) (tree_held form z) (half form level) level (place_of form a level d) (record { number = d; level = level; left = Some c; right = right })
+                        (block_at z d) refl refl (sym links.2) (sym links.3) (dealt_whole z (place_of form a level d) (drop count joined) high_many high_of),
+                    tt,
+                  ),
+                );
+            keyed = for_two (λ (x : ℕ). HasKey form level (block_at z x)) c d (dealt_key z (place_of form a level c) (take count joined) low_many low_of)
+                (dealt_key z (place_of form a level d) (drop count joined) high_many high_of);
+            items = two_flat (λ (x : ℕ). items_in form level (block_at z x)) c d
+                ∙ ap (λ (is : List (Item X level)). is ++ items_in form level (block_at z d)) low_items
                 ∙ ap (λ (is : List (Item X level)). take count joined ++ is) (dealt_items z (place_of form a level d) (drop count joined) high_many high_of)
-                ∙ take-append-drop count joined);
+                ∙ take-append-drop count joined ∙ sym (two_flat (λ (x : ℕ). items_in form level (block_at a x)) c d);
+            next = λ q right place count items at left block.
+                second.others q (times_other q d [] (λ same. behind.right_apart q right (sym same))) ∙ first.others q (times_other q c [] (λ same. beside q right (sym same))) ∙ block
+                ∙ ap (λ (l : Option ℕ). tree_block form (site_of a) (record place { left = l }) count items) left;
           },
           items_counted form z level c ∙ ap length low_items ∙ low_long,
         )
@@ -185,7 +219,8 @@ module _ {X : Type 0} (form : Form X) (laws : IsForm form) (a : Blocks) (known :
         → Writes b z (option_to_list (right_in form (block_at a d)))
         → Gathers form level (site_of a) (block_at a c) (block_at a d) 0 total (record (place_of form a level c) { right = right_in form (block_at a d) }) (block_at b c)
         → ((q old : ℕ) → right_in form (block_at a d) ≡ Some q → IsRelinked form b z q old c)
-        → MergesItems form a z level c d
+        → Deals form a z level (c ∷ d ∷ []) (c ∷ []) (c ∷ option_to_list (right_in form (block_at a d))) d c
+    unfolding AreLinked
     merge_dealt beside b z first second whole linked =
         let next : Option ℕ = right_in form (block_at a d) in
         let place : Place = record (place_of form a level c) { right = next } in
@@ -198,9 +233,15 @@ module _ {X : Type 0} (form : Form X) (laws : IsForm form) (a : Blocks) (known :
         let some : half form level ≤ length joined = omega (arith, length-append xs ys, items_counted form a level c, placed_least c placed) in
         record {
           writes = writes_then a b z (c ∷ []) first (option_to_list next) second;
-          whole = dealt_whole z place joined some of;
-          keyed = dealt_key z place joined some of;
-          items = merge_same form a z c d level (dealt_items z place joined some of);
+          linked = λ left right was.
+              let links = pair_links left right was in (
+                whole_moved form (site_of a) (tree_held form z) (half form level) level place (record { number = c; level = level; left = left; right = right }) (block_at z c)
+                    refl refl (sym links.0) (sym links.3) (dealt_whole z place joined some of),
+                tt,
+              );
+          keyed = for_one (λ (x : ℕ). HasKey form level (block_at z x)) c (dealt_key z place joined some of);
+          items = one_flat (λ (x : ℕ). items_in form level (block_at z x)) c ∙ dealt_items z place joined some of
+              ∙ sym (two_flat (λ (x : ℕ). items_in form level (block_at a x)) c d);
           next = λ q right.
               relinked_between form a b z z q d c (first.others q (times_other q c [] (λ same. beside q right (sym same)))) first.same.site refl (linked q d right);
         }

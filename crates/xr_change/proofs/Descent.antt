@@ -1,39 +1,42 @@
 -- A step down in a tree: a child of a node stands in its row, and a change under the node leaves the node in its.
-use Rattle.std.proofs.Common.{◌≡◌, ℕ, zero, suc, ◌<◌, ◌≤◌, true, None, List, [], ◌∷◌, ◌++◌, length, take, drop, refl, sym, ap, ◌∙◌, subst, arith}
-use Rattle.std.proofs.lemmas.List.{append_assoc, length-map}
-use Rattle.std.proofs.lemmas.List.Concat.{flat_map-append}
-use Rattle.std.specs.List.{All, AllPairs}
+use Rattle.std.proofs.Common.{◌≡◌, ℕ, zero, suc, ◌+◌, ◌<◌, ◌≤◌, true, false, None, List, [], ◌∷◌, ◌++◌, length, take, drop, refl, sym, ap, ◌∙◌, subst, arith, ⊎_elim}
+use Rattle.std.proofs.lemmas.Cmp.{tied_itself}
+use Rattle.std.proofs.lemmas.List.{length-map}
+use Rattle.std.proofs.lemmas.List.Elements.{All-contains, Contains-append_cases, Contains-append_left}
+use Rattle.std.specs.List.{All, AllPairs, Contains}
 use Rattle.std.specs.declared.cmp.Ordering.TheVariants.{Less}
 use Rattle.xr_blocks.proofs.Times.{found_in}
-use Rattle.xr_blocks.specs.Form.{Form}
-use Rattle.xr_blocks.specs.Overlay.{Blocks, block_at}
+use Rattle.xr_blocks.specs.Form.{Form, IsForm}
+use Rattle.xr_blocks.specs.Overlay.{Blocks, block_at, changed_blocks}
 use Rattle.xr_blocks.specs.Rows.{AreRowsOf, IsWholeLeaf, IsWholeNode, half, named_below}
 use Rattle.xr_blocks.specs.Tree.{records_of, site_of, tree_held}
 use Rattle.xr_blocks.specs.TreeBlock.{Entry, entries_in, records_in}
-use Rattle.xr_change.proofs.InTree.{in_row}
-use Rattle.xr_change.proofs.Rearranging.{one_around}
-use Rattle.xr_change.proofs.RowBlocks.{below, children, least_less, records_under_node}
+use Rattle.xr_change.proofs.RowBlocks.{alters_same, below, children, least_less, records_under_node}
+use Rattle.xr_change.proofs.NodeContext.{children_around, row_has}
+use Rattle.xr_change.proofs.Written.{one_around, unchanged_less}
+use Rattle.xr_change.proofs.SetLemmas.{front_below, inserted_between, removed_between, replaced_between}
 use Rattle.xr_change.specs.Alters.{AreRowsIn}
-use Rattle.xr_change.specs.Rearranges.{IsSameUnder}
-use Rattle.xr_change.specs.Ways.{IsInTree, child_of, item_count}
+use Rattle.xr_change.specs.Changes.{HasWay}
+use Rattle.xr_change.specs.Regroups.{IsSameUnder}
+use Rattle.xr_change.specs.Sets.{inserted, removed, replaced}
+use Rattle.xr_change.specs.Ways.{IsInTree, IsWay, child_of, item_count}
+use Rattle.xr_change.specs.Writes.{is_changed, unchanged}
 use Rattle.xr_lookup.proofs.PartLemmas.{all_left, all_right, pairs_left, pairs_right}
 use Rattle.xr_lookup.specs.UnderLaws.{linked_at}
 
 module _ {X : Type 0} (form : Form X) (b : Blocks) where
   -- a block of a row has the items that the row asks for
-  pub least_items : (level n : ℕ) (here : IsInTree form b level n) → here.least ≤ item_count form b level n
+  pub row_least : (least level : ℕ) (pre : List ℕ) (n : ℕ) (post : List ℕ) → AreRowsIn form b least level (pre ++ n ∷ post) → least ≤ item_count form b level n
   unfolding AreRowsOf
-  least_items zero n here =
-      let linked = linked_at (IsWholeLeaf form (site_of b) (tree_held form b) here.least) (block_at b) zero None (here.pre ++ n ∷ here.post) None n here.rows.rows
-      (found_in (here.pre ++ n ∷ here.post) n (in_row form b zero n here)) in
-      let whole = linked.2 in
-      subst (λ (m : ℕ). here.least ≤ length (records_in form (block_at b m))) linked.1 whole.least_items
-  least_items (suc level) n here =
-      let rows = here.rows.rows in
-      let linked = linked_at (IsWholeNode form (site_of b) (tree_held form b) here.least) (block_at b) (suc level) None (here.pre ++ n ∷ here.post) None n rows.0
-      (found_in (here.pre ++ n ∷ here.post) n (in_row form b (suc level) n here)) in
-      let whole = linked.2 in
-      subst (λ (m : ℕ). here.least ≤ length (entries_in form (block_at b m))) linked.1 whole.least_items
+  row_least least zero pre n post known =
+      let linked = linked_at (IsWholeLeaf form (site_of b) (tree_held form b) least) (block_at b) zero None (pre ++ n ∷ post) None n known.rows
+      (found_in (pre ++ n ∷ post) n (row_has n n pre post refl)) in
+      let whole = linked.2 in subst (λ (m : ℕ). least ≤ length (records_in form (block_at b m))) linked.1 whole.least_items
+  row_least least (suc level) pre n post known =
+      let rows = known.rows in
+      let linked = linked_at (IsWholeNode form (site_of b) (tree_held form b) least) (block_at b) (suc level) None (pre ++ n ∷ post) None n rows.0
+      (found_in (pre ++ n ∷ post) n (row_has n n pre post refl)) in
+      let whole = linked.2 in subst (λ (m : ℕ). least ≤ length (entries_in form (block_at b m))) linked.1 whole.least_items
 
   module _ (level n k : ℕ) (here : IsInTree form b (suc level) n) (within : k < length (entries_in form (block_at b n))) where
     abbrev pub names : List ℕ
@@ -42,17 +45,13 @@ module _ {X : Type 0} (form : Form X) (b : Blocks) where
     pub names_around : names ≡ take k names ++ child_of form b n k ∷ drop (suc k) names
     names_around = one_around names k (child_of form b n k) (omega (arith, within, length-map (entries_in form (block_at b n)) (λ (e : Entry). e.child))) refl
 
-    row_around : children form b (here.pre ++ n ∷ here.post)
+    pub row_around : children form b (here.pre ++ n ∷ here.post)
         ≡ (children form b here.pre ++ take k names) ++ child_of form b n k ∷ (drop (suc k) names ++ children form b here.post)
-    row_around =
-        flat_map-append (named_below (tree_held form b)) here.pre (n ∷ here.post)
-        ∙ ap (λ (ms : List ℕ). children form b here.pre ++ (ms ++ children form b here.post)) names_around
-        ∙ ap (λ (ms : List ℕ). children form b here.pre ++ ms) (append_assoc (take k names) (child_of form b n k ∷ drop (suc k) names) (children form b here.post))
-        ∙ sym (append_assoc (children form b here.pre) (take k names) (child_of form b n k ∷ (drop (suc k) names ++ children form b here.post)))
+    row_around = children_around form b n (take k names) (child_of form b n k ∷ []) (drop (suc k) names) names_around here.pre here.post
 
     pub records_around : records_of form b (suc level) (n ∷ [])
         ≡ records_of form b level (take k names) ++ (records_of form b level (child_of form b n k ∷ []) ++ records_of form b level (drop (suc k) names))
-    records_around = records_under_node form b level n (take k names) (child_of form b n k) (drop (suc k) names) names_around
+    records_around = records_under_node form b level n (take k names) (child_of form b n k ∷ []) (drop (suc k) names) names_around
 
     pub child_in_rows : AreRowsIn form b (half form level) level ((children form b here.pre ++ take k names) ++ child_of form b n k ∷ (drop (suc k) names ++ children form b here.post))
     child_in_rows = subst (AreRowsIn form b (half form level) level) row_around (below form b here.least level (here.pre ++ n ∷ here.post) here.rows)
@@ -72,8 +71,7 @@ module _ {X : Type 0} (form : Form X) (b : Blocks) where
     }
 
     pub child_least : half form level ≤ item_count form b level (child_of form b n k)
-    unfolding child_in_tree
-    child_least = least_items level (child_of form b n k) child_in_tree
+    child_least = row_least (half form level) level _ (child_of form b n k) _ child_in_rows
 
 -- a block whose records stay is in its row still
 pub in_tree_after : {X : Type 0} (form : Form X) (a b : Blocks) (floor level n : ℕ) (here : IsInTree form a level n) → here.least ≤ floor
@@ -104,3 +102,64 @@ loosened form b level n here = record {
 pub in_tree_still : {X : Type 0} (form : Form X) (a b : Blocks) (level n : ℕ) → IsInTree form a level n → IsSameUnder form a b 0 level n → IsInTree form b level n
 unfolding loosened
 in_tree_still form a b level n here same = in_tree_after form a b 0 level n (loosened form a level n here) (omega arith) same
+
+-- the way down to a child, in a node that keeps its records, and what of them the change is one of
+module _ {X : Type 0} (form : Form X) (laws : IsForm form) (s : Blocks) (level n k : ℕ) (here : IsInTree form s (suc level) n) (within : k < length (entries_in form (block_at s n))) where
+  abbrev front : List X
+  front = records_of form s level (take k (names form s level n k here within))
+
+  abbrev own : List X
+  own = records_of form s level (child_of form s n k ∷ [])
+
+  abbrev behind : List X
+  behind = records_of form s level (drop (suc k) (names form s level n k here within))
+
+  pub way_for : (a : Blocks) (lost : ℕ) (change : List X → List X) → ((floor : ℕ) → floor + lost ≤ item_count form a (suc level) n → IsSameUnder form a s floor (suc level) n)
+      → lost ≤ item_count form a (suc level) n → half form level + lost ≤ item_count form s level (child_of form s n k)
+      → change (front ++ (own ++ behind)) ≡ front ++ (change own ++ behind)
+      → ((m : ℕ) → is_changed a m ≡ true → is_changed s m ≡ true)
+      → length (changed_blocks s) + unchanged s (child_of form s n k) + unchanged s n ≤ length (changed_blocks a) + unchanged a n + 3
+      → HasWay form a s lost level n k change
+  way_for a lost change same some least there stay few = record {
+    same = same;
+    here = here;
+    within = within;
+    least = least;
+    there = ap change (sym (same 0 (omega (arith, some))).records ∙ records_around form s level n k here within) ∙ there;
+    stay = stay;
+    few = few;
+  }
+
+  -- where nothing was rearranged
+  pub way_here : (lost : ℕ) (change : List X → List X) → lost ≤ item_count form s (suc level) n → half form level + lost ≤ item_count form s level (child_of form s n k)
+      → change (front ++ (own ++ behind)) ≡ front ++ (change own ++ behind) → HasWay form s s lost level n k change
+  way_here lost change some least there =
+      way_for s lost change (λ floor low. record { alters = alters_same form s floor (suc level) n; records = refl }) some least there (λ m is. is)
+      (omega (arith, unchanged_less false (is_changed s (child_of form s n k)) (λ lie. absurd cc)))
+
+  module _ (r : X) where
+    pub inserted_there : IsWay form s level n r k → inserted form.order r (front ++ (own ++ behind)) ≡ front ++ (inserted form.order r own ++ behind)
+    inserted_there way = inserted_between form.order laws.total r front own behind way.before way.behind
+
+    below_held : Contains own r → All (λ (x : X). form.order x r ≡ Less) front
+    below_held found =
+        front_below form.order front (own ++ behind) r (subst (AllPairs (λ (x y : X). form.order x y ≡ Less)) (records_around form s level n k here within) here.ascend)
+        (Contains-append_left own behind r found)
+
+    pub removed_there : Contains own r → removed form.order r (front ++ (own ++ behind)) ≡ front ++ (removed form.order r own ++ behind)
+    removed_there found = removed_between form.order laws.total r front own behind (below_held found) found
+
+    pub replaced_there : (new : X) → Contains own r → replaced form.order r new (front ++ (own ++ behind)) ≡ front ++ (replaced form.order r new own ++ behind)
+    replaced_there new found = replaced_between form.order laws.total r new front own behind (below_held found) found
+
+    -- a record stands under the child on its way
+    pub held_on_way : IsWay form s level n r k → Contains (records_of form s (suc level) (n ∷ [])) r → Contains own r
+    held_on_way way found =
+        let apart : form.order r r ≡ Less → ⊥ = λ less. let lie = sym less ∙ tied_itself laws.total r in absurd cc in
+        ⊎_elim
+        (λ (in_front : Contains front r). absurd (apart (All-contains (λ (x : X). form.order x r ≡ Less) front r way.before in_front)))
+        (λ (rest : Contains (own ++ behind) r). ⊎_elim
+        (λ (there : Contains own r). there)
+        (λ (after : Contains behind r). absurd (apart (All-contains (λ (x : X). form.order r x ≡ Less) behind r way.behind after)))
+        (Contains-append_cases own behind r rest))
+        (Contains-append_cases front (own ++ behind) r (subst (λ (rs : List X). Contains rs r) (records_around form s level n k here within) found))

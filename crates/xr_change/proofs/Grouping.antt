@@ -13,7 +13,7 @@ use Rattle.xr_blocks.specs.Tree.{blocks_of, records_of, tree_held}
 use Rattle.xr_blocks.specs.TreeBlock.{Entry, Place, Site}
 use Rattle.xr_blocks.proofs.Times.{times_at, times_of}
 use Rattle.xr_change.specs.Alters.{HoldsSame, IsWholeAt}
-use Rattle.xr_change.specs.Regroups.{HaveSameItems}
+use Rattle.xr_change.specs.Regroups.{HaveSameItems, blocks_below, items_in}
 use Rattle.xr_change.proofs.RowBlocks.{blocks_same, children, holds_same, key_same, records_same, times_append, times_below, times_blocks_append, times_leaves, times_row}
 use Rattle.xr_lookup.proofs.PartLemmas.{all_left, all_right}
 use Rattle.xr_lookup.specs.UnderLaws.{same_each}
@@ -53,16 +53,6 @@ module _ {X : Type 0} (form : Form X) (held : Held X) (level : ℕ) where
     entries_named ns (all_right HasKey (held.entries n) (flat_map held.entries ns) all),
   )
 
-  pub named_apart : (xs ys : List ℕ) → AreNamed form held level (xs ++ ys) → AreNamed form held level xs × AreNamed form held level ys
-  unfolding AreNamed
-  named_apart [] ys named = (tt, named)
-  named_apart (x ∷ xs) ys named = let rest = named_apart xs ys named.1 in ((named.0, rest.0), rest.1)
-
-  pub named_joined : (xs ys : List ℕ) → AreNamed form held level xs → AreNamed form held level ys → AreNamed form held level (xs ++ ys)
-  unfolding AreNamed
-  named_joined [] ys front rest = rest
-  named_joined (x ∷ xs) ys front rest = (front.0, named_joined xs ys front.1 rest)
-
 -- entries have the keys of their children still where these have the same
 pub keys_stay : {X : Type 0} (form : Form X) (held held' : Held X) (level : ℕ) (es : List Entry)
     → ((m : ℕ) → 1 ≤ times m (map (λ (e : Entry). e.child) es) → key_held form held' level m ≡ key_held form held level m)
@@ -74,11 +64,6 @@ keys_stay form held held' level es same all k d within =
     subst (λ (m : ℕ). 1 ≤ times m (map (λ (entry : Entry). entry.child) es)) child
     (times_at (map (λ (entry : Entry). entry.child) es) k e.child (omega (arith, within, length-map es (λ (entry : Entry). entry.child)))) in
     all k d within ∙ sym (same e.child there)
-
--- the blocks of the rows below one
-abbrev pub blocks_below : {X : Type 0} → Form X → Blocks → ℕ → List ℕ → List ℕ
-blocks_below form b zero row = []
-blocks_below form b (suc level) row = blocks_of form b level (children form b row)
 
 pub times_rows : {X : Type 0} (form : Form X) (b : Blocks) (m level : ℕ) (row : List ℕ)
     → times m (blocks_of form b level row) ≡ times m row + times m (blocks_below form b level row)
@@ -106,22 +91,21 @@ row_linked form site at held least (suc level) row rows = rows.0
 
 -- the same items
 module _ {X : Type 0} (form : Form X) (before after : Blocks) where
-  abbrev pub SameItems : ℕ → List ℕ → List ℕ → Type 0
-  SameItems = HaveSameItems (tree_held form before) (tree_held form after)
+  item_same : (level m : ℕ) → HoldsSame form before after m → items_in form level (block_at after m) ≡ items_in form level (block_at before m)
+  unfolding items_in
+  item_same zero m same = same.same_records
+  item_same (suc level) m same = same.same_entries
 
-  pub items_append : (level : ℕ) (xs ys xs' ys' : List ℕ) → SameItems level xs xs' → SameItems level ys ys' → SameItems level (xs ++ ys) (xs' ++ ys')
-  unfolding HaveSameItems
-  items_append zero xs ys xs' ys' front rest =
-      flat_map-append (tree_held form after).records xs' ys' ∙ rw (front, rest) (sym (flat_map-append (tree_held form before).records xs ys))
-  items_append (suc level) xs ys xs' ys' front rest =
-      flat_map-append (tree_held form after).entries xs' ys' ∙ rw (front, rest) (sym (flat_map-append (tree_held form before).entries xs ys))
+  pub items_append : (level : ℕ) (xs ys xs' ys' : List ℕ) → HaveSameItems form before after level xs xs' → HaveSameItems form before after level ys ys'
+      → HaveSameItems form before after level (xs ++ ys) (xs' ++ ys')
+  items_append level xs ys xs' ys' front rest =
+      flat_map-append (λ (m : ℕ). items_in form level (block_at after m)) xs' ys' ∙ rw (front, rest)
+      (sym (flat_map-append (λ (m : ℕ). items_in form level (block_at before m)) xs ys))
 
-  pub items_same : (level : ℕ) (row : List ℕ) → ((m : ℕ) → 1 ≤ times m row → HoldsSame form before after m) → SameItems level row row
-  unfolding HaveSameItems
-  items_same zero row same =
-      flat_map_same (tree_held form after).records (tree_held form before).records row (λ m within. (same m (times_of row m within)).same_records)
-  items_same (suc level) row same =
-      flat_map_same (tree_held form after).entries (tree_held form before).entries row (λ m within. (same m (times_of row m within)).same_entries)
+  pub items_same : (level : ℕ) (row : List ℕ) → ((m : ℕ) → 1 ≤ times m row → HoldsSame form before after m) → HaveSameItems form before after level row row
+  items_same level row same =
+      flat_map_same (λ (m : ℕ). items_in form level (block_at after m)) (λ (m : ℕ). items_in form level (block_at before m)) row
+      (λ m within. item_same level m (same m (times_of row m within)))
 
   pub whole_same : (site : Site) (least level : ℕ) (place : Place) → block_at after place.number ≡ block_at before place.number
       → IsWholeAt form site (tree_held form before) level least place (block_at before place.number)
@@ -141,13 +125,13 @@ module _ {X : Type 0} (form : Form X) (before after : Blocks) where
         (λ m some. key_same form before after level m (same m (subst (λ (ms : List ℕ). 1 ≤ times m ms) (sym (named_flat (tree_held form before) row)) some)))
         (named_entries form (tree_held form before) level row named)))
 
-    below_same : (level : ℕ) → SameItems (suc level) row row' → children form after row' ≡ children form before row
-    unfolding HaveSameItems
+    below_same : (level : ℕ) → HaveSameItems form before after (suc level) row row' → children form after row' ≡ children form before row
+    unfolding items_in
     below_same level items =
         named_flat (tree_held form after) row' ∙ ap (map (λ (e : Entry). e.child)) items ∙ sym (named_flat (tree_held form before) row)
 
     -- the rows below stay, and so do all records
-    pub rest_regrouped : (level : ℕ) → SameItems level row row'
+    pub rest_regrouped : (level : ℕ) → HaveSameItems form before after level row row'
         → ((m : ℕ) → 1 ≤ times m (blocks_below form before level row) → block_at after m ≡ block_at before m)
         → blocks_below form after level row' ≡ blocks_below form before level row
     rest_regrouped zero items same = refl
@@ -155,21 +139,21 @@ module _ {X : Type 0} (form : Form X) (before after : Blocks) where
         ap (blocks_of form after level) (below_same level items)
         ∙ blocks_same form before after level (children form before row) (λ m some. holds_same form before after m (same m some))
 
-    pub records_regrouped : (level : ℕ) → SameItems level row row'
+    pub records_regrouped : (level : ℕ) → HaveSameItems form before after level row row'
         → ((m : ℕ) → 1 ≤ times m (blocks_below form before level row) → block_at after m ≡ block_at before m)
         → records_of form after level row' ≡ records_of form before level row
-    unfolding HaveSameItems leaves_from
+    unfolding items_in leaves_from
     records_regrouped zero items same = items
     records_regrouped (suc level) items same =
         ap (records_of form after level) (below_same level items)
         ∙ records_same form before after level (children form before row) (λ m some. holds_same form before after m (same m some))
 
-    pub rows_regrouped : (site : Site) (least level : ℕ) → SameItems level row row'
+    pub rows_regrouped : (site : Site) (least level : ℕ) → HaveSameItems form before after level row row'
         → ((m : ℕ) → 1 ≤ times m (blocks_below form before level row) → block_at after m ≡ block_at before m)
         → AreLinked (IsWholeAt form site (tree_held form after) level least) (block_at after) level None row' None
         → AreRowsOf form site (block_at before) (tree_held form before) least level row
         → AreRowsOf form site (block_at after) (tree_held form after) least level row'
-    unfolding AreRowsOf IsWholeAt HaveSameItems
+    unfolding AreRowsOf IsWholeAt items_in
     rows_regrouped site least zero items same linked rows = linked
     rows_regrouped site least (suc level) items same linked rows = (
       linked,

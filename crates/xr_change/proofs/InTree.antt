@@ -1,29 +1,74 @@
 -- A block of a tree in its row: what a lookup may do there, and what a leaf is after its records were changed.
-use Rattle.std.proofs.Common.{◌≡◌, ℕ, zero, suc, ◌+◌, ◌<◌, ◌≤◌, true, List, [], ◌∷◌, ◌++◌, length, get_or, ap, ◌∙◌, subst, arith}
+use Rattle.std.proofs.Common.{◌≡◌, ℕ, zero, suc, ◌≤◌, None, List, [], ◌∷◌, ◌++◌, length, sym, ap, ◌∙◌, subst, arith, ◌+◌, ◌<◌, true, get_or}
 use Rattle.std.proofs.lemmas.List.{append-nil}
 use Rattle.std.specs.List.{AllPairs, Contains}
 use Rattle.std.specs.Ordering.{is_eq}
 use Rattle.std.specs.declared.cmp.Ordering.TheVariants.{Less}
 use Rattle.xr_blocks.proofs.Times.{all_of, found_in, times_same}
 use Rattle.xr_blocks.specs.Form.{Form, IsForm}
-use Rattle.xr_blocks.specs.Overlay.{AreBlocks, Blocks, block_at, pool_size, with_block}
+use Rattle.xr_blocks.specs.FrameLaws.{leaf_same, linked_same}
+use Rattle.xr_blocks.specs.Overlay.{Blocks, block_at, free_count, pool_size, with_block}
 use Rattle.xr_blocks.specs.OverlayLaws.{block_written}
-use Rattle.xr_blocks.specs.Rows.{leaves_from}
+use Rattle.xr_blocks.specs.Rows.{AreRowsOf, IsWholeLeaf, leaves_from}
 use Rattle.xr_blocks.specs.Times.{times}
-use Rattle.xr_blocks.specs.Tree.{blocks_of, records_of, site_of, tree_held}
-use Rattle.xr_blocks.specs.TreeBlock.{Place, Site, entries_in, leaf_bytes, records_in}
-use Rattle.xr_change.proofs.ChildFacts.{row_whole, whole_leaf}
-use Rattle.xr_change.proofs.LeafChanges.{alters_leaf}
-use Rattle.xr_change.proofs.Neighbours.{AreKnown}
-use Rattle.xr_change.proofs.RowBlocks.{times_append, times_row}
+use Rattle.xr_blocks.specs.Tree.{blocks_of, site_of, tree_held, records_of}
+use Rattle.xr_blocks.specs.TreeBlock.{Place, Site, leaf_bytes, records_in, count_in, entries_in}
+use Rattle.xr_change.proofs.ItemFacts.{row_whole, whole_leaf}
+use Rattle.xr_change.proofs.Written.{block_writes, same_count, written_only}
+use Rattle.xr_change.proofs.RowBlocks.{holds_same, not_alone, times_leaves, times_parts, times_append, times_row, same_or_other}
 use Rattle.xr_change.proofs.SetLemmas.{IsPlaceFor, stands_at}
-use Rattle.xr_change.proofs.Written.{block_writes, written_only}
-use Rattle.xr_change.specs.Alters.{Alters}
-use Rattle.xr_change.specs.Rearranges.{place_of}
+use Rattle.xr_change.specs.Alters.{Alters, AreRowsIn, AreKnown}
+use Rattle.xr_change.specs.Changes.{Changes}
+use Rattle.xr_change.specs.Regroups.{place_of}
 use Rattle.xr_change.specs.Ways.{IsInTree, item_count}
-use Rattle.xr_edit.proofs.EditLaws.{leaf_of_whole, leaf_records}
+use Rattle.xr_change.specs.Writes.{WritesOnly, Writes}
+use Rattle.xr_edit.proofs.EditLaws.{leaf_count, leaf_of_whole, leaf_records}
 use Rattle.xr_edit.specs.Edit.{IsLeafOf}
 use Rattle.xr_lookup.specs.Under.{IsUnder}
+
+module _ {X : Type 0} (form : Form X) (a b : Blocks) (floor n : ℕ) (rs : List X) (only : WritesOnly a b n)
+    (leaf : (place : Place) → place.number ≡ n → block_at a n ≡ leaf_bytes form (site_of a) place (records_in form (block_at a n))
+    → block_at b n ≡ leaf_bytes form (site_of a) place rs) (holds : records_in form (block_at b n) ≡ rs) (many : floor ≤ length rs) (few : length rs ≤ form.leaf_max) where
+  leaf_whole : (least : ℕ) (place : Place) → least ≤ floor → place.number ≡ n
+      → IsWholeLeaf form (site_of a) (tree_held form a) least place (block_at a place.number)
+      → IsWholeLeaf form (site_of a) (tree_held form b) least place (block_at b place.number)
+  leaf_whole least place low is whole =
+      let records : records_in form (block_at b place.number) ≡ rs = ap (λ (m : ℕ). records_in form (block_at b m)) is ∙ holds in
+      let before : block_at a n ≡ leaf_bytes form (site_of a) place (records_in form (block_at a n)) =
+      subst (λ (m : ℕ). block_at a m ≡ leaf_bytes form (site_of a) place (records_in form (block_at a m))) is whole.whole in
+      record {
+        whole = ap (block_at b) is ∙ leaf place is before ∙ ap (leaf_bytes form (site_of a) place) (sym records);
+        least_items = omega (arith, low, many, ap length records);
+        most_items = omega (arith, few, ap length records);
+      }
+
+  leaves_after : (least : ℕ) (row : List ℕ) → least ≤ floor → AreRowsIn form a least zero row → AreRowsIn form b least zero row
+  unfolding AreRowsOf
+  leaves_after least row low known = record {
+    rows = subst (λ (site : Site). AreRowsOf form site (block_at b) (tree_held form b) least zero row) (sym only.same.site)
+        (linked_same form (block_at a) (block_at b) (IsWholeLeaf form (site_of a) (tree_held form a) least) (IsWholeLeaf form (site_of a) (tree_held form b) least) zero None row None
+        (λ place within whole. same_or_other place.number n
+        (λ is. leaf_whole least place low is whole)
+        (λ other. leaf_same form (block_at a) (block_at b) (site_of a) least place (only.others place.number other) whole)) known.rows);
+    once = λ m. omega (arith, known.once m, times_leaves form a m row, times_leaves form b m row);
+    owned = λ m some.
+        let used = known.owned m (omega (arith, some, times_leaves form a m row, times_leaves form b m row)) in
+        record { from = used.from; below = subst (λ (size : ℕ). suc m ≤ size) (sym only.same.pool) used.below; taken = only.free m ∙ used.taken };
+  }
+
+  apart : (m : ℕ) → times m (blocks_of form a zero (n ∷ [])) ≡ 0 → m ≡ n → ⊥
+  apart m out = not_alone m n (omega (arith, out, times_leaves form a m (n ∷ [])))
+
+  pub alters_leaf : Alters form a b floor zero n
+  alters_leaf = record {
+    same = only.same;
+    rows = λ least pre post low known. leaves_after least (pre ++ n ∷ post) low known;
+    held = λ m used out.
+        (holds_same form a b m (only.others m (apart m out)), only.free m ∙ used, omega (arith, out, times_leaves form a m (n ∷ []), times_leaves form b m (n ∷ [])));
+    bytes = λ least pre post low known m used out. only.others m (apart m (omega (arith, out, times_parts form a m zero pre (n ∷ []) post)));
+    freed = λ m some none. absurd (omega (arith, some, none, times_leaves form a m (n ∷ []), times_leaves form b m (n ∷ [])));
+    spare = λ m free out. only.free m ∙ free;
+  }
 
 module _ {X : Type 0} (form : Form X) (b : Blocks) (level n : ℕ) (here : IsInTree form b level n) where
   pub in_row : 1 ≤ times n (here.pre ++ n ∷ here.post)
@@ -49,7 +94,7 @@ unfolding leaves_from
 leaf_alone form b n = append-nil (records_in form (block_at b n))
 
 -- a leaf that was written with other records
-module _ {X : Type 0} (form : Form X) (laws : IsForm form) (b : Blocks) (blocks : AreBlocks b) (known : AreKnown b) (n : ℕ) (here : IsInTree form b zero n) where
+module _ {X : Type 0} (form : Form X) (laws : IsForm form) (b : Blocks) (known : AreKnown b) (n : ℕ) (here : IsInTree form b zero n) where
   abbrev held : List X
   held = records_in form (block_at b n)
 
@@ -64,8 +109,9 @@ module _ {X : Type 0} (form : Form X) (laws : IsForm form) (b : Blocks) (blocks 
       (row_whole form laws b known here.least zero (here.pre ++ n ∷ here.post) here.rows n (in_row form b zero n here)) in
       (place_of form b zero n, leaf_here (place_of form b zero n) whole.whole whole.most_items)
 
-  pub leaf_few : length held ≤ form.leaf_max
-  leaf_few = own_place.1.few
+  pub leaf_read : (old : List ℕ) → old ≡ block_at b n → (count_in old ≡ length held) × (count_in old ≤ form.leaf_max)
+  leaf_read old same =
+      let count = ap count_in same ∙ leaf_count form laws (site_of b) own_place.0 (block_at b n) held own_place.1 in (count, omega (arith, count, own_place.1.few))
 
   -- a record of the leaf stands where the first does that isn't below it
   pub leaf_stands : (r : X) (k : ℕ) → IsPlaceFor form.order r held k → Contains (records_of form b zero (n ∷ [])) r
@@ -74,20 +120,37 @@ module _ {X : Type 0} (form : Form X) (laws : IsForm form) (b : Blocks) (blocks 
       stands_at form.order laws.total r held (subst (AllPairs (λ (x y : X). form.order x y ≡ Less)) (leaf_alone form b n) here.ascend) k place
       (subst (λ (xs : List X). Contains xs r) (leaf_alone form b n) found)
 
-  module _ (bytes : List ℕ) (records : List X) (made : (site : Site) (place : Place) → IsLeafOf form site place held (block_at b n) → IsLeafOf form site place records bytes) where
-    written : block_at (with_block b n bytes) n ≡ bytes
+  module _ (old bytes : List ℕ) (same : old ≡ block_at b n) (records : List X) (made : (site : Site) (place : Place)
+      → IsLeafOf form site place held old → IsLeafOf form site place records bytes) where
+    abbrev after : Blocks
+    after = with_block b n bytes
+
+    written : block_at after n ≡ bytes
     written = block_written b n bytes (in_pool form b zero n here)
 
-    pub leaf_now : records_in form (block_at (with_block b n bytes) n) ≡ records
-    leaf_now = ap (records_in form) written ∙ leaf_records form laws (site_of b) own_place.0 bytes records (made (site_of b) own_place.0 own_place.1)
+    writes : Writes b after (n ∷ [])
+    writes = block_writes b n bytes known.all (in_pool form b zero n here)
 
-    pub leaf_alters : (floor : ℕ) → floor ≤ length records → Alters form b (with_block b n bytes) floor zero n
-    leaf_alters floor many =
-        alters_leaf form b (with_block b n bytes) floor n records (written_only b (with_block b n bytes) n (block_writes b n bytes blocks (in_pool form b zero n here)))
-        (λ place is whole. written ∙ (made (site_of b) place (leaf_here place whole leaf_few)).whole) leaf_now many (made (site_of b) own_place.0 own_place.1).few
+    now : (place : Place) → IsLeafOf form (site_of b) place held (block_at b n) → IsLeafOf form (site_of b) place records bytes
+    now place was = made (site_of b) place (subst (IsLeafOf form (site_of b) place held) (sym same) was)
 
-    pub leaf_set : (set : List X) → records ≡ set → records_of form (with_block b n bytes) zero (n ∷ []) ≡ set
-    leaf_set set is = leaf_alone form (with_block b n bytes) n ∙ leaf_now ∙ is
+    holds : records_in form (block_at after n) ≡ records
+    holds = ap (records_in form) written ∙ leaf_records form laws (site_of b) own_place.0 bytes records (now own_place.0 own_place.1)
+
+    pub leaf_changes : (lost : ℕ) (change : List X → List X) → records ≡ change held → length held ≤ length records + lost → Changes form b after lost zero n change
+    leaf_changes lost change is many = record {
+      alters = λ floor low.
+          alters_leaf form b after floor n records (written_only b after n writes) (λ place number whole. written ∙ (now place (leaf_here place whole own_place.1.few)).whole) holds
+          (omega (arith, low, many)) (now own_place.0 own_place.1).few;
+      set = leaf_alone form after n ∙ holds ∙ is ∙ ap change (sym (leaf_alone form b n));
+      marks = record { stay = writes.marks.stay; few = omega (arith, writes.marks.few) };
+    }
+
+    pub leaf_long : length (records_in form (block_at after n)) ≡ length records
+    leaf_long = ap length holds
+
+    pub leaf_free : free_count after ≡ free_count b
+    leaf_free = same_count b after writes.free writes.same.pool
 
 -- a node is one level above its children
 pub one_more : (level : ℕ) → level + 1 ≡ suc level

@@ -1,23 +1,87 @@
--- Blocks with their items, whatever their level.
-use Rattle.std.proofs.Common.{◌≡◌, ℕ, zero, suc, ◌-◌, ◌/◌, ◌≤◌, Option, List, [], ◌∷◌, ◌++◌, length, take, drop, refl, sym, ap, ◌∙◌, subst, arith, ⊎_elim}
-use Rattle.std.proofs.lemmas.Bool.{cases_eq}
-use Rattle.xr_blocks.proofs.Times.{times_other}
+-- Blocks of a row, each at the place that it names, with their items, whatever their level.
+use Rattle.std.proofs.Common.{◌≡◌, ◌↔◌, ℕ, zero, suc, ◌<◌, ◌≤◌, None, List, [], ◌∷◌, ◌++◌, length, get_or, refl, sym, ap, ◌∙◌, subst, arith, ◌-◌, ◌/◌, Option, take, drop}
+use Rattle.std.proofs.lemmas.List.{append-nil, get_or-map}
+use Rattle.std.specs.List.{flat_map}
+use Rattle.xr_blocks.proofs.Times.{found_in}
 use Rattle.xr_blocks.specs.Form.{Form, IsForm}
-use Rattle.xr_blocks.specs.Overlay.{Blocks, IsBlock, block_at}
-use Rattle.xr_blocks.specs.Rows.{Held, half, held_in, key_held, key_of_entries, key_of_records}
+use Rattle.xr_blocks.specs.Overlay.{Blocks, block_at, pool_size, IsBlock}
+use Rattle.xr_blocks.specs.Rows.{Held, IsWholeLeaf, IsWholeNode, half, held_in, key_held, key_of_entries, key_of_records}
 use Rattle.xr_blocks.specs.Times.{times}
 use Rattle.xr_blocks.specs.Tree.{site_of, tree_held}
-use Rattle.xr_blocks.specs.TreeBlock.{Entry, Place, Site, count_in, entries_in, records_in}
-use Rattle.xr_change.proofs.ChildFacts.{leaf_now, merge_entries, merge_records, node_now, share_entries, share_records, split_entries, split_records, whole_leaf, whole_node}
-use Rattle.xr_change.proofs.Grouping.{items_same, whole_same}
-use Rattle.xr_change.proofs.RowBlocks.{holds_same, key_same}
-use Rattle.xr_change.specs.Alters.{IsWholeAt}
-use Rattle.xr_change.specs.Items.{HasKey, IsBlockOf, Item, items_in}
-use Rattle.xr_change.specs.Rearranges.{IsWholeNow, entry_for}
-use Rattle.xr_change.specs.Regroups.{HaveSameItems}
-use Rattle.xr_change.specs.Ways.{item_count, item_most}
+use Rattle.xr_blocks.specs.TreeBlock.{Entry, Place, Site, entries_in, leaf_bytes, node_bytes, records_in, count_in}
+use Rattle.xr_change.proofs.Grouping.{row_linked, items_same, whole_same}
+use Rattle.xr_change.proofs.Neighbours.{links_read, whole_moved}
+use Rattle.xr_change.proofs.NodeContext.{linked_stays}
+use Rattle.xr_change.proofs.RowBlocks.{times_row, holds_same, key_same}
+use Rattle.xr_change.specs.Alters.{AreKnown, AreRowsIn, IsWholeAt}
+use Rattle.xr_change.specs.Regroups.{place_of, HasKey, HaveSameItems, IsBlockOf, Item, entry_for, items_in}
+use Rattle.xr_change.specs.Ways.{child_of, item_count, item_most}
 use Rattle.xr_edit.proofs.EditLaws.{holds_records, leaf_count, leaf_of_whole, leaf_records, node_count, node_entries, node_of_whole}
 use Rattle.xr_edit.specs.Edit.{IsLeafOf, IsNodeOf}
+use Rattle.xr_lookup.specs.UnderLaws.{linked_at}
+
+-- each block of a row is whole at the place that it names
+pub row_whole : {X : Type 0} (form : Form X) (laws : IsForm form) (b : Blocks) (known : AreKnown b) (least level : ℕ) (row : List ℕ) → AreRowsIn form b least level row
+    → (m : ℕ) → 1 ≤ times m row → IsWholeAt form (site_of b) (tree_held form b) level least (place_of form b level m) (block_at b m)
+row_whole form laws b known least level row rows m some =
+    let P : Place → List ℕ → Type 0 = IsWholeAt form (site_of b) (tree_held form b) level least in
+    let Q : Place → List ℕ → Type 0 = λ place bytes. (place.level ≡ level) × P place bytes in
+    let linked = row_linked form (site_of b) (block_at b) (tree_held form b) least level row rows.rows in
+    let found = linked_at Q (block_at b) level None row None m
+    (linked_stays P Q (block_at b) (block_at b) level None row None (λ place low there whole. (low, whole)) linked) (found_in row m some) in
+    let place : Place = found.0 in
+    let same : place.number ≡ m = found.1 in
+    let used = rows.owned m (omega (arith, some, times_row form b m level row)) in
+    let links = links_read form laws b known least level place (subst (λ (k : ℕ). k < pool_size b) (sym same) used.below) found.2.1 in
+    subst (λ (k : ℕ). IsWholeAt form (site_of b) (tree_held form b) level least (place_of form b level k) (block_at b k)) same
+    (whole_moved form (site_of b) (tree_held form b) least level place (place_of form b level place.number) (block_at b place.number) refl (sym found.2.0) links.0 links.1 found.2.1)
+
+-- a whole block as a leaf or as a node, with the items that it holds now
+pub whole_leaf : {X : Type 0} (form : Form X) (site : Site) (held : Held X) (least : ℕ) (place : Place) (bytes : List ℕ)
+    → IsWholeAt form site held zero least place bytes ↔ IsWholeLeaf form site held least place bytes
+unfolding IsWholeAt
+whole_leaf form site held least place bytes = (λ whole. whole, λ whole. whole)
+
+pub whole_node : {X : Type 0} (form : Form X) (site : Site) (held : Held X) (least level : ℕ) (place : Place) (bytes : List ℕ)
+    → IsWholeAt form site held (suc level) least place bytes ↔ IsWholeNode form site held least place bytes
+unfolding IsWholeAt
+whole_node form site held least level place bytes = (λ whole. whole, λ whole. whole)
+
+-- a block is whole at a place, with what it holds now
+abbrev pub IsWholeNow : {X : Type 0} → Form X → Blocks → Blocks → ℕ → Place → Type 0
+IsWholeNow form before after level place = IsWholeAt form (site_of before) (tree_held form after) level (half form level) place (block_at after place.number)
+
+pub leaf_now : {X : Type 0} (form : Form X) (before after : Blocks) (place : Place) (records : List X)
+    → block_at after place.number ≡ leaf_bytes form (site_of before) place records → records_in form (block_at after place.number) ≡ records
+    → half form zero ≤ length records → length records ≤ form.leaf_max → IsWholeNow form before after zero place
+leaf_now form before after place records block holds many few =
+    (whole_leaf form (site_of before) (tree_held form after) (half form zero) place (block_at after place.number)).1 (record {
+      whole = block ∙ ap (leaf_bytes form (site_of before) place) (sym holds);
+      least_items = omega (arith, many, ap length holds);
+      most_items = omega (arith, few, ap length holds);
+    })
+
+pub node_now : {X : Type 0} (form : Form X) (before after : Blocks) (level : ℕ) (place : Place) (entries : List Entry)
+    → block_at after place.number ≡ node_bytes form (site_of before) place entries → entries_in form (block_at after place.number) ≡ entries
+    → half form (suc level) ≤ length entries → length entries ≤ form.node_max → IsWholeNow form before after (suc level) place
+node_now form before after level place entries block holds many few =
+    (whole_node form (site_of before) (tree_held form after) (half form (suc level)) level place (block_at after place.number)).1 (record {
+      whole = block ∙ ap (node_bytes form (site_of before) place) (sym holds);
+      least_items = omega (arith, many, ap length holds);
+      most_items = omega (arith, few, ap length holds);
+    })
+
+-- the k-th child is that of the k-th entry
+pub child_at : {X : Type 0} (form : Form X) (b : Blocks) (n k c : ℕ) (d : Entry) → k < length (entries_in form (block_at b n)) → child_of form b n k ≡ c
+    → (get_or (entries_in form (block_at b n)) k d).child ≡ c
+child_at form b n k c d within is = sym (get_or-map (λ (e : Entry). e.child) (entries_in form (block_at b n)) k d 0 within) ∙ is
+
+-- blocks with the same items, as records and as entries
+pub one_flat : {B : Type 0} (f : ℕ → List B) (c : ℕ) → flat_map f (c ∷ []) ≡ f c
+one_flat f c = append-nil (f c)
+
+pub two_flat : {B : Type 0} (f : ℕ → List B) (c d : ℕ) → flat_map f (c ∷ d ∷ []) ≡ f c ++ f d
+two_flat f c d = ap (λ (rest : List _). f c ++ rest) (append-nil (f d))
 
 -- the items of two blocks from a place to another
 abbrev pub Gathers : {X : Type 0} → Form X → (level : ℕ) → Site → List ℕ → List ℕ → ℕ → ℕ → Place → List ℕ → Type 0
@@ -129,56 +193,14 @@ module _ {X : Type 0} (form : Form X) (laws : IsForm form) where
   whole_now a z (suc level) place items is many =
       node_now form a z level place items is.whole (node_entries form laws (site_of a) place (block_at z place.number) items is) many is.few
 
--- blocks with the items of others
-module _ {X : Type 0} (form : Form X) (a b : Blocks) (c d : ℕ) where
-  abbrev items : (level : ℕ) → Blocks → ℕ → List (Item X level)
-  items level over m = items_in form level (block_at over m)
-
-  pub split_same : (level : ℕ) → items level b c ++ items level b d ≡ items level a c → HaveSameItems (tree_held form a) (tree_held form b) level (c ∷ []) (c ∷ d ∷ [])
-  unfolding items_in
-  split_same zero same = split_records form a b c d same
-  split_same (suc level) same = split_entries form a b c d level same
-
-  pub share_same : (level : ℕ) → items level b c ++ items level b d ≡ items level a c ++ items level a d
-      → HaveSameItems (tree_held form a) (tree_held form b) level (c ∷ d ∷ []) (c ∷ d ∷ [])
-  unfolding items_in
-  share_same zero same = share_records form a b c d same
-  share_same (suc level) same = share_entries form a b c d level same
-
-  pub merge_same : (level : ℕ) → items level b c ≡ items level a c ++ items level a d → HaveSameItems (tree_held form a) (tree_held form b) level (c ∷ d ∷ []) (c ∷ [])
-  unfolding items_in
-  merge_same zero same = merge_records form a b c d same
-  merge_same (suc level) same = merge_entries form a b c d level same
-
-items_then : {X : Type 0} (a b z : Held X) (level : ℕ) (old new : List ℕ) → HaveSameItems a b level old new → HaveSameItems b z level new new
-    → HaveSameItems a z level old new
-unfolding HaveSameItems
-items_then a b z zero old new first second = second ∙ first
-items_then a b z (suc level) old new first second = second ∙ first
-
 -- what a block was made stays where it isn't written again
 module _ {X : Type 0} (form : Form X) (a b z : Blocks) (level : ℕ) where
   pub whole_later : (place : Place) → block_at z place.number ≡ block_at b place.number → IsWholeNow form a b level place → IsWholeNow form a z level place
   whole_later place same whole = whole_same form b z (site_of a) (half form level) level place same whole
 
-  pub items_later : (old new : List ℕ) → HaveSameItems (tree_held form a) (tree_held form b) level old new
-      → ((m : ℕ) → 1 ≤ times m new → block_at z m ≡ block_at b m) → HaveSameItems (tree_held form a) (tree_held form z) level old new
-  items_later old new items same = items_then (tree_held form a) (tree_held form b) (tree_held form z) level old new items
-      (items_same form b z level new (λ m there. holds_same form b z m (same m there)))
+  pub items_later : (old new : List ℕ) → HaveSameItems form a b level old new → ((m : ℕ) → 1 ≤ times m new → block_at z m ≡ block_at b m) → HaveSameItems form a z level old new
+  items_later old new items same = items_same form b z level new (λ m there. holds_same form b z m (same m there)) ∙ items
 
 pub entry_later : {X : Type 0} (form : Form X) (b z : Blocks) (level m : ℕ) → block_at z m ≡ block_at b m → entry_for form b level m ≡ entry_for form z level m
 entry_later form b z level m same =
     ap (λ (key : List ℕ). let e : Entry = record { key = key; child = m } in e) (sym (key_same form b z level m (holds_same form b z m same)))
-
-pub one_stays : (b z : Blocks) (c : ℕ) → block_at z c ≡ block_at b c → (m : ℕ) → 1 ≤ times m (c ∷ []) → block_at z m ≡ block_at b m
-one_stays b z c first m there = ⊎_elim
-    (λ (same : c ≡ m). subst (λ (x : ℕ). block_at z x ≡ block_at b x) same first)
-    (λ (other : c ≡ m → ⊥). absurd (omega (arith, there, times_other m c [] other)))
-    (cases_eq c m)
-
-pub two_stay : (b z : Blocks) (c d : ℕ) → block_at z c ≡ block_at b c → block_at z d ≡ block_at b d
-    → (m : ℕ) → 1 ≤ times m (c ∷ d ∷ []) → block_at z m ≡ block_at b m
-two_stay b z c d first second m there = ⊎_elim
-    (λ (same : c ≡ m). subst (λ (x : ℕ). block_at z x ≡ block_at b x) same first)
-    (λ (other : c ≡ m → ⊥). one_stays b z d second m (omega (arith, there, times_other m c (d ∷ []) other)))
-    (cases_eq c m)

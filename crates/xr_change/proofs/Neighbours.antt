@@ -3,28 +3,19 @@ use Rattle.std.proofs.Common.{◌≡◌, ℕ, zero, suc, ◌+◌, ◌*◌, ◌^�
 use Rattle.std.proofs.lemmas.List.{length-drop}
 use Rattle.std.proofs.Math.Nat.{mul-le-mul_right}
 use Rattle.std.specs.List.{flat_map}
-use Rattle.xr_base.specs.declared.geometry.TheConstants.{BLOCKS, BLOCK_BYTES}
+use Rattle.xr_base.specs.declared.geometry.TheConstants.{BLOCK_BYTES}
 use Rattle.xr_blocks.specs.BigEndianLaws.{dropped_bytes}
 use Rattle.xr_blocks.specs.BlockLaws.{fields_fill, length-items}
 use Rattle.xr_blocks.specs.Form.{Form, IsForm, header_size, pointer_size}
-use Rattle.xr_blocks.specs.Overlay.{AreBlocks, AreWhole, Blocks, block_at, pool_size}
+use Rattle.xr_blocks.specs.Overlay.{Blocks, block_at, pool_size}
 use Rattle.xr_blocks.specs.Rows.{Held}
 use Rattle.xr_blocks.specs.Tree.{site_of, tree_held}
 use Rattle.xr_blocks.specs.TreeBlock.{Entry, Place, Site, count_in, entries_in, header, leaf_bytes, neighbour, node_bytes, node_items, records_in, tree_block}
-use Rattle.xr_change.specs.Alters.{HoldsSame, IsWholeAt}
+use Rattle.xr_change.specs.Alters.{AreKnown, HoldsSame, IsWholeAt}
 use Rattle.xr_node.proofs.BlockTesting.{IsRead, Names, block_read, neighbour_again}
 use Rattle.xr_node.proofs.ItemTesting.{node_read}
 use Rattle.xr_node.specs.BlockTest.{left_in, right_in}
 use Rattle.xr_node.specs.NodeLaws.{length-entries}
-
--- what is known of any overlay
-pub record AreKnown (b : Blocks) : Type 0 where
-  pub whole : AreWhole b.current
-  pub identified : length b.uuid ≡ 16
-  pub small : pool_size b ≤ BLOCKS
-
-pub known_of : (b : Blocks) → AreBlocks b → AreWhole b.current → length b.uuid ≡ 16 → AreKnown b
-known_of b all whole identified = record { whole = whole; identified = identified; small = omega (arith, all.within_image) }
 
 named_small : (long : Bool) (n : ℕ) → n < 2 ^ 31 → Names (if long then 8 else 4) (Some n)
 named_small true n small = omega arith

@@ -1,20 +1,101 @@
--- Some children of a node, and what stands beside them in the row of all children.
-use Rattle.std.proofs.Common.{◌≡◌, ℕ, suc, ◌+◌, ◌≤◌, Option, Some, None, List, [], ◌∷◌, ◌++◌, sym, ap, ◌∙◌, subst, arith, append_assoc}
+-- Rows that are linked, cut in two and joined, and some blocks of a row with what stands beside them there.
+use Rattle.std.proofs.Common.{◌≡◌, ℕ, ◌+◌, ◌≤◌, Option, Some, None, List, [], ◌∷◌, ◌++◌, refl, sym, ap, subst, arith, inl, inr, ◌⊎◌, suc, ◌∙◌, append_assoc}
 use Rattle.std.proofs.lemmas.List.Concat.{flat_map-append}
 use Rattle.std.specs.List.{last_or}
-use Rattle.xr_blocks.proofs.Times.{times_same}
+use Rattle.xr_blocks.proofs.Times.{times_more, times_same}
 use Rattle.xr_blocks.specs.Form.{Form, IsForm}
-use Rattle.xr_blocks.specs.Overlay.{Blocks, block_at, is_free, pool_size}
-use Rattle.xr_blocks.specs.Rows.{AreLinked, AreRowsOf, first_of, half, named_below}
+use Rattle.xr_blocks.specs.Overlay.{Blocks, block_at}
+use Rattle.xr_blocks.specs.Rows.{AreLinked, first_of, half, named_below}
 use Rattle.xr_blocks.specs.Times.{times}
-use Rattle.xr_blocks.specs.Tree.{IsUsed, blocks_of, site_of, tree_held}
+use Rattle.xr_blocks.specs.Tree.{blocks_of, site_of, tree_held}
 use Rattle.xr_blocks.specs.TreeBlock.{Place}
-use Rattle.xr_change.specs.Alters.{AreRowsIn, IsWholeAt}
-use Rattle.xr_change.proofs.Grouping.{blocks_below, row_linked, times_rows}
-use Rattle.xr_change.proofs.Linking.{last_within, linked_apart, linked_first, linked_last}
-use Rattle.xr_change.proofs.Neighbours.{AreKnown, right_read}
-use Rattle.xr_change.proofs.RowBlocks.{children, times_append, times_below}
+use Rattle.xr_change.proofs.Grouping.{row_linked, times_rows}
+use Rattle.xr_change.proofs.Neighbours.{right_read}
+use Rattle.xr_change.proofs.RowBlocks.{below, children, times_append, same_or_other}
+use Rattle.xr_change.specs.Alters.{AreKnown, AreRowsIn, IsWholeAt}
+use Rattle.xr_change.specs.Regroups.{blocks_below}
 use Rattle.xr_node.specs.BlockTest.{right_in}
+
+pub is_some_of : (o : Option ℕ) (m : ℕ) → (o ≡ Some m) ⊎ (o ≡ Some m → ⊥)
+is_some_of None m = inr (λ is. absurd cc)
+is_some_of (Some k) m = same_or_other k m (λ same. inl (ap Some same)) (λ other. inr (λ is. other cc))
+
+pub first_of-append : (xs ys : List ℕ) (right : Option ℕ) → first_of (xs ++ ys) right ≡ first_of xs (first_of ys right)
+first_of-append [] ys right = refl
+first_of-append (x ∷ xs) ys right = refl
+
+pub last_within : (x : ℕ) (xs : List ℕ) (last : ℕ) → last_or (Some x) xs ≡ Some last → 1 ≤ times last (x ∷ xs)
+last_within x [] last is =
+    let same : x ≡ last = cc in subst (λ (m : ℕ). 1 ≤ times m (x ∷ [])) same (omega (arith, times_same x []))
+last_within x (y ∷ ys) last is = omega (arith, last_within y ys last is, times_more last x (y ∷ ys))
+
+module _ (P : Place → List ℕ → Type 0) (at : ℕ → List ℕ) (level : ℕ) where
+  pub linked_apart : (left : Option ℕ) (xs ys : List ℕ) (right : Option ℕ) → AreLinked P at level left (xs ++ ys) right
+      → AreLinked P at level left xs (first_of ys right) × AreLinked P at level (last_or left xs) ys right
+  unfolding AreLinked
+  linked_apart left [] ys right linked = (tt, linked)
+  linked_apart left (x ∷ xs) ys right linked =
+      let rest = linked_apart (Some x) xs ys right linked.1 in
+      ((subst (λ (o : Option ℕ). P (record { number = x; level = level; left = left; right = o }) (at x)) (first_of-append xs ys right) linked.0, rest.0), rest.1)
+
+  pub linked_joined : (left : Option ℕ) (xs ys : List ℕ) (right : Option ℕ) → AreLinked P at level left xs (first_of ys right)
+      → AreLinked P at level (last_or left xs) ys right → AreLinked P at level left (xs ++ ys) right
+  unfolding AreLinked
+  linked_joined left [] ys right front rest = rest
+  linked_joined left (x ∷ xs) ys right front rest = (
+    subst (λ (o : Option ℕ). P (record { number = x; level = level; left = left; right = o }) (at x)) (sym (first_of-append xs ys right)) front.0,
+    linked_joined (Some x) xs ys right front.1 rest,
+  )
+
+  -- the last block's right neighbour stands behind the row
+  pub linked_last : (left : Option ℕ) (x : ℕ) (xs : List ℕ) (right : Option ℕ) (last : ℕ) → last_or (Some x) xs ≡ Some last
+      → AreLinked P at level left (x ∷ xs) right → (l : Option ℕ) × P (record { number = last; level = level; left = l; right = right }) (at last)
+  unfolding AreLinked
+  linked_last left x [] right last is linked =
+      let same : x ≡ last = cc in
+      (left, subst (λ (m : ℕ). P (record { number = m; level = level; left = left; right = right }) (at m)) same linked.0)
+  linked_last left x (y ∷ ys) right last is linked = linked_last (Some x) y ys right last is linked.1
+
+  pub linked_first : (left : Option ℕ) (row : List ℕ) (right : Option ℕ) (q : ℕ) → first_of row None ≡ Some q → AreLinked P at level left row right
+      → (r : Option ℕ) × P (record { number = q; level = level; left = left; right = r }) (at q)
+  unfolding AreLinked
+  linked_first left [] right q is linked = absurd cc
+  linked_first left (n ∷ ns) right q is linked =
+      let same : n ≡ q = cc in
+      (first_of ns right, subst (λ (m : ℕ). P (record { number = m; level = level; left = left; right = first_of ns right }) (at m)) same linked.0)
+
+module _ (P Q : Place → List ℕ → Type 0) (at now : ℕ → List ℕ) (level : ℕ) where
+  -- each block is as good at its place as it was
+  pub linked_stays : (left : Option ℕ) (row : List ℕ) (right : Option ℕ)
+      → ((place : Place) → place.level ≡ level → 1 ≤ times place.number row → P place (at place.number) → Q place (now place.number))
+      → AreLinked P at level left row right → AreLinked Q now level left row right
+  unfolding AreLinked
+  linked_stays left [] right each linked = tt
+  linked_stays left (n ∷ ns) right each linked = (
+    each (record { number = n; level = level; left = left; right = first_of ns right }) refl (omega (arith, times_same n ns)) linked.0,
+    linked_stays (Some n) ns right (λ place low some. each place low (omega (arith, some, times_more place.number n ns))) linked.1,
+  )
+
+  -- the first has another left neighbour
+  pub linked_after : (left left' : Option ℕ) (row : List ℕ) (right : Option ℕ) → ((m : ℕ) → times m row ≤ 1)
+      → ((q : ℕ) → first_of row None ≡ Some q → (place : Place) → place.number ≡ q → place.level ≡ level → place.left ≡ left
+      → P place (at q) → Q (record place { left = left' }) (now q))
+      → ((place : Place) → place.level ≡ level → 1 ≤ times place.number row → (first_of row None ≡ Some place.number → ⊥)
+      → P place (at place.number) → Q place (now place.number))
+      → AreLinked P at level left row right → AreLinked Q now level left' row right
+  unfolding AreLinked
+  linked_after left left' [] right once first each linked = tt
+  linked_after left left' (n ∷ ns) right once first each linked = (
+    first n refl (record { number = n; level = level; left = left; right = first_of ns right }) refl refl refl linked.0,
+    linked_stays (Some n) ns right
+        (λ place low some.
+        each place low (omega (arith, some, times_more place.number n ns))
+        (λ is.
+        let same : n ≡ place.number = cc in
+        let two : times place.number (n ∷ ns) ≡ 1 + times place.number ns = subst (λ (m : ℕ). times m (n ∷ ns) ≡ 1 + times m ns) same (times_same n ns) in
+        absurd (omega (arith, two, some, once place.number))))
+        linked.1,
+  )
 
 pub row_joined : (a f o b z : List ℕ) → a ++ ((f ++ (o ++ b)) ++ z) ≡ (a ++ f) ++ (o ++ (b ++ z))
 row_joined a f o b z = rw (append_assoc f (o ++ b) z, append_assoc o b z) (sym (append_assoc a f (o ++ (b ++ z))))
@@ -28,109 +109,51 @@ first_within [] q is = absurd cc
 first_within (x ∷ xs) q is =
     let same : x ≡ q = cc in subst (λ (m : ℕ). 1 ≤ times m (x ∷ xs)) same (omega (arith, times_same x xs))
 
--- `old` are children of a node between others. The rows from that of the node on down hold these blocks and no others.
-pub record IsAmong {X : Type 0} (form : Form X) (b : Blocks) (level n : ℕ) (front old behind pre post : List ℕ) : Type 0 where
-  pub row : children form b (pre ++ n ∷ post) ≡ (children form b pre ++ front) ++ (old ++ (behind ++ children form b post))
-  pub counted : (m : ℕ) → times m (blocks_of form b (suc level) (pre ++ n ∷ post))
-      ≡ times m (pre ++ n ∷ post)
-      + ((times m (children form b pre ++ front) + (times m old + times m (behind ++ children form b post)))
-      + times m (blocks_below form b level ((children form b pre ++ front) ++ (old ++ (behind ++ children form b post)))))
-  pub linked : AreLinked (IsWholeAt form (site_of b) (tree_held form b) level (half form level)) (block_at b) level None
-      ((children form b pre ++ front) ++ (old ++ (behind ++ children form b post))) None
-
-module _ {X : Type 0} (form : Form X) (b : Blocks) (level n : ℕ) (front old behind : List ℕ) where
-  children_row : (pre post : List ℕ) → named_below (tree_held form b) n ≡ front ++ (old ++ behind)
-      → children form b (pre ++ n ∷ post) ≡ (children form b pre ++ front) ++ (old ++ (behind ++ children form b post))
-  children_row pre post named =
-      flat_map-append (named_below (tree_held form b)) pre (n ∷ post)
-      ∙ ap (λ (ms : List ℕ). children form b pre ++ (ms ++ children form b post)) named
+-- the row of the children of a row of nodes, by some children of one
+module _ {X : Type 0} (form : Form X) (b : Blocks) (n : ℕ) (front old behind : List ℕ) (named : named_below (tree_held form b) n ≡ front ++ (old ++ behind)) (pre post : List ℕ) where
+  pub children_around : children form b (pre ++ n ∷ post) ≡ (children form b pre ++ front) ++ (old ++ (behind ++ children form b post))
+  children_around =
+      flat_map-append (named_below (tree_held form b)) pre (n ∷ post) ∙ ap (λ (ms : List ℕ). children form b pre ++ (ms ++ children form b post)) named
       ∙ row_joined (children form b pre) front old behind (children form b post)
 
-  pub among : named_below (tree_held form b) n ≡ front ++ (old ++ behind) → (least : ℕ) (pre post : List ℕ) → AreRowsIn form b least (suc level) (pre ++ n ∷ post)
-      → IsAmong form b level n front old behind pre post
-  unfolding AreRowsOf
-  among named least pre post rows =
-      let left : List ℕ = children form b pre ++ front in
-      let right : List ℕ = behind ++ children form b post in
-      let row = children_row pre post named in
-      let below = rows.rows in
-      record {
-        row = row;
-        counted = λ m.
-            let same : times m (blocks_of form b level (children form b (pre ++ n ∷ post))) ≡ times m (blocks_of form b level (left ++ (old ++ right))) =
-            ap (λ (ms : List ℕ). times m (blocks_of form b level ms)) row in
-            omega (
-              arith,
-              same,
-              times_below form b m level (pre ++ n ∷ post),
-              times_rows form b m level (left ++ (old ++ right)),
-              times_append m left (old ++ right),
-              times_append m old right,
-            );
-        linked = row_linked form (site_of b) (block_at b) (tree_held form b) (half form level) level (left ++ (old ++ right))
-            (subst (AreRowsOf form (site_of b) (block_at b) (tree_held form b) (half form level) level) row below.2);
-      }
+  pub rows_among : (least level : ℕ) → AreRowsIn form b least (suc level) (pre ++ n ∷ post)
+      → AreRowsIn form b (half form level) level ((children form b pre ++ front) ++ (old ++ (behind ++ children form b post)))
+  rows_among least level rows = subst (AreRowsIn form b (half form level) level) children_around (below form b least level (pre ++ n ∷ post) rows)
 
-  module _ (pre post : List ℕ) (here : IsAmong form b level n front old behind pre post) where
-    -- none of them stands twice, and all are used
-    pub among_once : (least : ℕ) → AreRowsIn form b least (suc level) (pre ++ n ∷ post) → (m : ℕ) → times m old ≤ 1
-    among_once least rows m = omega (arith, rows.once m, here.counted m)
+-- some blocks of a row, and what stands beside them there
+module _ {X : Type 0} (form : Form X) (b : Blocks) (level : ℕ) (pre old post : List ℕ) (rows : AreRowsIn form b (half form level) level (pre ++ (old ++ post))) where
+  abbrev P : Place → List ℕ → Type 0
+  P = IsWholeAt form (site_of b) (tree_held form b) level (half form level)
 
-    pub among_used : (least : ℕ) → AreRowsIn form b least (suc level) (pre ++ n ∷ post) → (m : ℕ) → 1 ≤ times m old → IsUsed (is_free b) (pool_size b) m
-    among_used least rows m some = rows.owned m (omega (arith, some, here.counted m))
+  pub counted : (m : ℕ) → times m (blocks_of form b level (pre ++ (old ++ post)))
+      ≡ (times m pre + (times m old + times m post)) + times m (blocks_below form b level (pre ++ (old ++ post)))
+  counted m = omega (arith, times_rows form b m level (pre ++ (old ++ post)), times_append m pre (old ++ post), times_append m old post)
 
-    -- they are linked, and so are those behind them
-    pub linked_among : AreLinked (IsWholeAt form (site_of b) (tree_held form b) level (half form level)) (block_at b) level (last_or None (children form b pre ++ front)) old
-        (first_of (behind ++ children form b post) None)
-    linked_among =
-        let P : Place → List ℕ → Type 0 = IsWholeAt form (site_of b) (tree_held form b) level (half form level) in
-        let left : List ℕ = children form b pre ++ front in
-        let right : List ℕ = behind ++ children form b post in
-        let parts = linked_apart P (block_at b) level None left (old ++ right) None here.linked in
-        (linked_apart P (block_at b) level (last_or None left) old right None parts.1).0
+  pub row_parts : AreLinked P (block_at b) level None pre (first_of (old ++ post) None)
+      × AreLinked P (block_at b) level (last_or None pre) old (first_of post None) × AreLinked P (block_at b) level (last_or (last_or None pre) old) post None
+  row_parts =
+      let parts = linked_apart P (block_at b) level None pre (old ++ post) None
+      (row_linked form (site_of b) (block_at b) (tree_held form b) (half form level) level (pre ++ (old ++ post)) rows.rows) in
+      let rest = linked_apart P (block_at b) level (last_or None pre) old post None parts.1 in (parts.0, rest.0, rest.1)
+
+  module _ (c : ℕ) (olds : List ℕ) (is : old ≡ c ∷ olds) (last : ℕ) (found : last_or (Some c) olds ≡ Some last) where
+    last_is : last_or (last_or None pre) old ≡ Some last
+    last_is = ap (last_or (last_or None pre)) is ∙ found
 
     -- the first behind them is whole at a place right of the last
-    pub first_behind : (first : ℕ) (rest : List ℕ) → old ≡ first ∷ rest → (last : ℕ) → last_or (Some first) old ≡ Some last
-        → (q : ℕ) → first_of (behind ++ children form b post) None ≡ Some q → (right : Option ℕ) × IsWholeAt form (site_of b) (tree_held form b) level (half form level)
-        (record { number = q; level = level; left = Some last; right = right }) (block_at b q)
-    first_behind first rest is last found q next =
-        let P : Place → List ℕ → Type 0 = IsWholeAt form (site_of b) (tree_held form b) level (half form level) in
-        let o : Option ℕ = last_or None (children form b pre ++ front) in
-        let right : List ℕ = behind ++ children form b post in
-        let parts = linked_apart P (block_at b) level None (children form b pre ++ front) (old ++ right) None here.linked in
-        let last_is : last_or o old ≡ Some last = ap (last_or o) is ∙ ap (last_or (Some first)) (sym is) ∙ found in
-        linked_first P (block_at b) level (Some last) right None q next
-        (subst (λ (l : Option ℕ). AreLinked P (block_at b) level l right None) last_is (linked_apart P (block_at b) level o old right None parts.1).1)
+    pub first_behind : (q : ℕ) → first_of post None ≡ Some q → (right : Option ℕ) × P (record { number = q; level = level; left = Some last; right = right }) (block_at b q)
+    first_behind q next = linked_first P (block_at b) level (Some last) post None q next (subst (λ (l : Option ℕ). AreLinked P (block_at b) level l post None) last_is row_parts.2)
 
-    -- the last of them names the first behind them
-    pub last_names : (laws : IsForm form) (known : AreKnown b) (least : ℕ) → AreRowsIn form b least (suc level) (pre ++ n ∷ post)
-        → (first : ℕ) (rest : List ℕ) → old ≡ first ∷ rest → (last : ℕ) → last_or (Some first) old ≡ Some last
-        → right_in form (block_at b last) ≡ first_of (behind ++ children form b post) None
-    last_names laws known least rows first rest is last found =
-        let P : Place → List ℕ → Type 0 = IsWholeAt form (site_of b) (tree_held form b) level (half form level) in
-        let o : Option ℕ = last_or None (children form b pre ++ front) in
-        let right : List ℕ = behind ++ children form b post in
-        let last_is : last_or (Some first) rest ≡ Some last = ap (last_or (Some first)) (sym is) ∙ found in
-        let whole = linked_last P (block_at b) level o first rest (first_of right None) last last_is
-        (subst (λ (ms : List ℕ). AreLinked P (block_at b) level o ms (first_of right None)) is linked_among) in
-        let there : 1 ≤ times last old = subst (λ (ms : List ℕ). 1 ≤ times last ms) (sym is) (last_within first rest last last_is) in
-        right_read form laws b known (half form level) level (record { number = last; level = level; left = whole.0; right = first_of right None })
-        (rows.owned last (omega (arith, there, here.counted last))).below
-        (λ q next. (rows.owned q (omega (arith, first_within right q next, here.counted q))).below) whole.1
+    -- and the last of them names it
+    pub last_names : (laws : IsForm form) (known : AreKnown b) → right_in form (block_at b last) ≡ first_of post None
+    last_names laws known =
+        let o : Option ℕ = last_or None pre in
+        let whole = linked_last P (block_at b) level o c olds (first_of post None) last found
+        (subst (λ (ms : List ℕ). AreLinked P (block_at b) level o ms (first_of post None)) is row_parts.1) in
+        let there : 1 ≤ times last old = subst (λ (ms : List ℕ). 1 ≤ times last ms) (sym is) (last_within c olds last found) in
+        right_read form laws b known (half form level) level (record { number = last; level = level; left = whole.0; right = first_of post None })
+        (rows.owned last (omega (arith, there, counted last))).below
+        (λ q next. (rows.owned q (omega (arith, first_within post q next, counted q))).below) whole.1
 
-    -- the block behind them is used, and is neither one of them nor the node
-    pub behind_used : (laws : IsForm form) (known : AreKnown b) (least : ℕ) → AreRowsIn form b least (suc level) (pre ++ n ∷ post)
-        → (first : ℕ) (rest : List ℕ) → old ≡ first ∷ rest → (last : ℕ) → last_or (Some first) old ≡ Some last
-        → (q : ℕ) → right_in form (block_at b last) ≡ Some q → IsUsed (is_free b) (pool_size b) q
-    behind_used laws known least rows first rest is last found q right =
-        let there = first_within (behind ++ children form b post) q (sym (last_names laws known least rows first rest is last found) ∙ right) in
-        rows.owned q (omega (arith, there, here.counted q))
-
-    pub behind_apart : (laws : IsForm form) (known : AreKnown b) (least : ℕ) → AreRowsIn form b least (suc level) (pre ++ n ∷ post)
-        → (first : ℕ) (rest : List ℕ) → old ≡ first ∷ rest → (last : ℕ) → last_or (Some first) old ≡ Some last
-        → (q : ℕ) → right_in form (block_at b last) ≡ Some q → (q ≡ n → ⊥) × (times q old ≡ 0)
-    behind_apart laws known least rows first rest is last found q right =
-        let there = first_within (behind ++ children form b post) q (sym (last_names laws known least rows first rest is last found) ∙ right) in (
-          λ same. absurd (omega (arith, there, row_has q n pre post same, here.counted q, rows.once q)),
-          omega (arith, there, here.counted q, rows.once q),
-        )
+    pub next_within : (laws : IsForm form) (known : AreKnown b) (q : ℕ) → right_in form (block_at b last) ≡ Some q → 1 ≤ times q post
+    next_within laws known q right = first_within post q (sym (last_names laws known) ∙ right)

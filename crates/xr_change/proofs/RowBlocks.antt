@@ -1,20 +1,23 @@
--- The rows below some blocks: how often a block stands in them, what they are where blocks hold the same, and where they stay
--- rows of a tree.
-use Rattle.std.proofs.Common.{◌≡◌, ℕ, zero, suc, ◌+◌, ◌≤◌, false, None, List, [], ◌∷◌, ◌++◌, map, refl, sym, ap, ◌∙◌, subst, arith, ⊎_elim}
+-- The rows below some blocks: how often a block stands in them, what they are where blocks hold the same, and changes of what stands under
+-- a block: none, and one after another.
+use Rattle.std.proofs.Common.{⊎_elim, ◌≡◌, ℕ, ◌+◌, ◌≤◌, false, List, [], ◌∷◌, ◌++◌, refl, ap, ◌∙◌, arith, zero, suc, None, map, sym, subst}
+use Rattle.std.proofs.lemmas.List.Concat.{flat_map-append}
 use Rattle.std.proofs.lemmas.Bool.{cases_eq}
 use Rattle.std.proofs.lemmas.List.{append-nil}
-use Rattle.std.proofs.lemmas.List.Concat.{flat_map-append}
 use Rattle.std.specs.List.{concat, flat_map}
 use Rattle.xr_blocks.proofs.Times.{times_more, times_of, times_other, times_same}
 use Rattle.xr_blocks.specs.Form.{Form}
 use Rattle.xr_blocks.specs.FrameLaws.{are_rows_same, flat_map_same, linked_same}
-use Rattle.xr_blocks.specs.Overlay.{Blocks, block_at, is_free}
-use Rattle.xr_blocks.specs.Rows.{AreNamed, AreRowsOf, Held, IsWholeLeaf, IsWholeNode, half, key_held, key_of_entries, key_of_records, leaves_from, named_below, rows_from}
+use Rattle.xr_blocks.specs.Overlay.{Blocks, is_free, block_at}
+use Rattle.xr_blocks.specs.Rows.{half, AreNamed, AreRowsOf, Held, IsWholeLeaf, IsWholeNode, key_held, key_of_entries, key_of_records, leaves_from, named_below, rows_from}
 use Rattle.xr_blocks.specs.Times.{times}
 use Rattle.xr_blocks.specs.Tree.{blocks_of, records_of, site_of, tree_held}
 use Rattle.xr_blocks.specs.TreeBlock.{Entry, Site, entries_in, records_in}
-use Rattle.xr_change.specs.Alters.{AreRowsIn, HoldsSame, IsSamePool}
+use Rattle.xr_change.specs.Alters.{Alters, AreRowsIn, HoldsSame, IsSamePool, Takes}
 use Rattle.xr_change.specs.Ways.{item_count}
+
+pub same_or_other : {P : Type 0} (m n : ℕ) → (m ≡ n → P) → ((m ≡ n → ⊥) → P) → P
+same_or_other m n same other = ⊎_elim same other (cases_eq m n)
 
 pub times_append : (n : ℕ) (xs ys : List ℕ) → times n (xs ++ ys) ≡ times n xs + times n ys
 times_append n [] ys = omega arith
@@ -46,11 +49,11 @@ module _ {X : Type 0} (form : Form X) (b : Blocks) where
       ∙ times_blocks_append n level (children form b xs) (children form b ys) in
       omega (arith, split, times_append n xs ys, times_below n level (xs ++ ys), times_below n level xs, times_below n level ys)
 
-  -- a block of a row between others
-  pub times_parts : (n level : ℕ) (pre : List ℕ) (m : ℕ) (post : List ℕ)
-      → times n (blocks_of form b level (pre ++ m ∷ post))
-      ≡ times n (blocks_of form b level pre) + (times n (blocks_of form b level (m ∷ [])) + times n (blocks_of form b level post))
-  times_parts n level pre m post = omega (arith, times_blocks_append n level pre (m ∷ post), times_blocks_append n level (m ∷ []) post)
+  -- blocks of a row between others
+  pub times_parts : (n level : ℕ) (pre mid post : List ℕ)
+      → times n (blocks_of form b level (pre ++ (mid ++ post)))
+      ≡ times n (blocks_of form b level pre) + (times n (blocks_of form b level mid) + times n (blocks_of form b level post))
+  times_parts n level pre mid post = omega (arith, times_blocks_append n level pre (mid ++ post), times_blocks_append n level mid post)
 
   -- a row is the first of those from it on down
   pub times_row : (n level : ℕ) (row : List ℕ) → times n row ≤ times n (blocks_of form b level row)
@@ -73,22 +76,21 @@ module _ {X : Type 0} (form : Form X) (b : Blocks) where
   unfolding leaves_from
   records_below level row = refl
 
-  -- the blocks and the records under a node, by one of its children
-  module _ (level n : ℕ) (front : List ℕ) (c : ℕ) (behind : List ℕ) (named : named_below (tree_held form b) n ≡ front ++ c ∷ behind) where
-    children_alone : children form b (n ∷ []) ≡ front ++ c ∷ behind
+  -- the blocks and the records under a node, by some of its children
+  module _ (level n : ℕ) (front mid behind : List ℕ) (named : named_below (tree_held form b) n ≡ front ++ (mid ++ behind)) where
+    children_alone : children form b (n ∷ []) ≡ front ++ (mid ++ behind)
     children_alone = append-nil (named_below (tree_held form b) n) ∙ named
 
     pub times_under : (m : ℕ)
         → times m (blocks_of form b (suc level) (n ∷ []))
-        ≡ times m (n ∷ []) + (times m (blocks_of form b level front) + (times m (blocks_of form b level (c ∷ [])) + times m (blocks_of form b level behind)))
+        ≡ times m (n ∷ []) + (times m (blocks_of form b level front) + (times m (blocks_of form b level mid) + times m (blocks_of form b level behind)))
     times_under m =
-        let blocks = ap (λ (row : List ℕ). times m (blocks_of form b level row)) children_alone in
-        omega (arith, times_below m level (n ∷ []), blocks, times_parts m level front c behind)
+        omega (arith, times_below m level (n ∷ []), ap (λ (row : List ℕ). times m (blocks_of form b level row)) children_alone, times_parts m level front mid behind)
 
-    pub records_under_node : records_of form b (suc level) (n ∷ []) ≡ records_of form b level front ++ (records_of form b level (c ∷ []) ++ records_of form b level behind)
+    pub records_under_node : records_of form b (suc level) (n ∷ []) ≡ records_of form b level front ++ (records_of form b level mid ++ records_of form b level behind)
     records_under_node =
-        records_below level (n ∷ []) ∙ ap (records_of form b level) children_alone ∙ records_append level front (c ∷ behind)
-        ∙ ap (λ (rs : List X). records_of form b level front ++ rs) (records_append level (c ∷ []) behind)
+        records_below level (n ∷ []) ∙ ap (records_of form b level) children_alone ∙ records_append level front (mid ++ behind)
+        ∙ ap (λ (rs : List X). records_of form b level front ++ rs) (records_append level mid behind)
 
   -- the rows below a row
   pub below : (least level : ℕ) (row : List ℕ) → AreRowsIn form b least (suc level) row → AreRowsIn form b (half form level) level (children form b row)
@@ -130,10 +132,9 @@ module _ {X : Type 0} (form : Form X) (b : Blocks) where
 
   pub least_alone : (least least' level n : ℕ) → AreRowsIn form b least level (n ∷ []) → least' ≤ item_count form b level n → AreRowsIn form b least' level (n ∷ [])
   least_alone least least' level n known many =
-      least_down least least' level (n ∷ []) known (λ m some before. ⊎_elim
-      (λ (same : n ≡ m). subst (λ (k : ℕ). least' ≤ item_count form b level k) same many)
-      (λ (other : n ≡ m → ⊥). absurd (omega (arith, some, times_other m n [] other)))
-      (cases_eq n m))
+      least_down least least' level (n ∷ []) known (λ m some before. same_or_other n m
+      (λ same. subst (λ (k : ℕ). least' ≤ item_count form b level k) same many)
+      (λ other. absurd (omega (arith, some, times_other m n [] other))))
 
 -- a node gives its children the keys that they have
 abbrev pub IsNamedAt : {X : Type 0} → Form X → Held X → ℕ → ℕ → Type 0
@@ -148,10 +149,9 @@ module _ {X : Type 0} (form : Form X) (held : Held X) (level : ℕ) where
   pub named_each : (row : List ℕ) → AreNamed form held level row → (m : ℕ) → 1 ≤ times m row → IsNamedAt form held level m
   unfolding AreNamed
   named_each [] named m some = absurd (omega (arith, some))
-  named_each (n ∷ ns) named m some = ⊎_elim
-      (λ (same : n ≡ m). subst (IsNamedAt form held level) same named.0)
-      (λ (other : n ≡ m → ⊥). named_each ns named.1 m (omega (arith, some, times_other m n ns other)))
-      (cases_eq n m)
+  named_each (n ∷ ns) named m some = same_or_other n m
+      (λ same. subst (IsNamedAt form held level) same named.0)
+      (λ other. named_each ns named.1 m (omega (arith, some, times_other m n ns other)))
 
 module _ {X : Type 0} (form : Form X) (a b : Blocks) where
   -- each of some blocks holds in b what it holds in a
@@ -218,3 +218,82 @@ module _ {X : Type 0} (form : Form X) (a b : Blocks) where
             let used = known.owned m there in
             record { from = used.from; below = subst (λ (size : ℕ). suc m ≤ size) (sym pool.pool) used.below; taken = (stay m there).1 };
       }
+
+pub pool_then : (a b c : Blocks) → IsSamePool a b → IsSamePool b c → IsSamePool a c
+pool_then a b c one two = record {
+  site = two.site ∙ one.site;
+  pool = two.pool ∙ one.pool;
+  kept = two.kept ∙ one.kept;
+  kept_free = two.kept_free ∙ one.kept_free;
+}
+
+pub pool_same : (a : Blocks) → IsSamePool a a
+pool_same a = record { site = refl; pool = refl; kept = refl; kept_free = refl }
+
+pub holds_then : {X : Type 0} (form : Form X) (a b c : Blocks) (m : ℕ) → HoldsSame form a b m → HoldsSame form b c m → HoldsSame form a c m
+holds_then form a b c m one two = record { same_records = two.same_records ∙ one.same_records; same_entries = two.same_entries ∙ one.same_entries }
+
+-- blocks beside some in their row keep all below them
+module _ {X : Type 0} (form : Form X) (a b : Blocks) (level : ℕ) (old new : List ℕ)
+    (held : (m : ℕ) → is_free a m ≡ false → times m (blocks_of form a level old) ≡ 0 → HoldsSame form a b m × (is_free b m ≡ false) × (times m (blocks_of form b level new) ≡ 0))
+    (least : ℕ) (pre post : List ℕ) (known : AreRowsIn form a least level (pre ++ (old ++ post))) where
+  pub held_beside : (m : ℕ) → 1 ≤ times m (blocks_of form a level pre) + times m (blocks_of form a level post)
+      → HoldsSame form a b m × (is_free b m ≡ false) × (times m (blocks_of form b level new) ≡ 0)
+  held_beside m some =
+      let parts = times_parts form a m level pre old post in
+      let used = known.owned m (omega (arith, some, parts)) in held m used.taken (omega (arith, some, parts, known.once m))
+
+  -- the blocks of a row after the change
+  pub times_after : (m : ℕ)
+      → times m (blocks_of form b level (pre ++ (new ++ post)))
+      ≡ times m (blocks_of form a level pre) + (times m (blocks_of form b level new) + times m (blocks_of form a level post))
+  times_after m =
+      let before = ap (times m) (blocks_same form a b level pre (λ k some. (held_beside k (omega (arith, some))).0)) in
+      let behind = ap (times m) (blocks_same form a b level post (λ k some. (held_beside k (omega (arith, some))).0)) in
+      omega (arith, times_parts form b m level pre new post, before, behind)
+
+  -- what stands in no row from these blocks on down doesn't come in
+  pub still_out : (m : ℕ) → is_free a m ≡ false → times m (blocks_of form a level (pre ++ (old ++ post))) ≡ 0
+      → (is_free b m ≡ false) × (times m (blocks_of form b level (pre ++ (new ++ post))) ≡ 0)
+  still_out m used out =
+      let parts = times_parts form a m level pre old post in
+      let kept = held m used (omega (arith, out, parts)) in (kept.1, omega (arith, out, parts, kept.2, times_after m))
+
+module _ {X : Type 0} (form : Form X) where
+  pub alters_same : (a : Blocks) (floor level n : ℕ) → Alters form a a floor level n
+  alters_same a floor level n = record {
+    same = pool_same a;
+    rows = λ least pre post low known. known;
+    held = λ m used out. (holds_same form a a m refl, used, out);
+    bytes = λ least pre post low known m used out. refl;
+    freed = λ m some none. absurd (omega (arith, some, none));
+    spare = λ m free out. free;
+  }
+
+  pub alters_then : (a b c : Blocks) (floor level n : ℕ) → Alters form a b floor level n → Alters form b c floor level n → Alters form a c floor level n
+  alters_then a b c floor level n one two = record {
+    same = pool_then a b c one.same two.same;
+    rows = λ least pre post low known. two.rows least pre post low (one.rows least pre post low known);
+    held = λ m used out.
+        let first = one.held m used out in
+        let second = two.held m first.1 first.2 in (holds_then form a b c m first.0 second.0, second.1, second.2);
+    bytes = λ least pre post low known m used out.
+        let still = still_out form a b level (n ∷ []) (n ∷ []) one.held least pre post known m used out in
+        two.bytes least pre post low (one.rows least pre post low known) m still.0 still.1 ∙ one.bytes least pre post low known m used out;
+    freed = λ m some none. same_or_other (times m (blocks_of form b level (n ∷ []))) 0
+        (λ gone. two.spare m (one.freed m some gone) none)
+        (λ between. two.freed m (omega (arith, between)) none);
+    spare = λ m free out. same_or_other (times m (blocks_of form b level (n ∷ []))) 0
+        (λ never. two.spare m (one.spare m free never) out)
+        (λ between. two.freed m (omega (arith, between)) out);
+  }
+
+  pub alters_takes : (a b : Blocks) (level n : ℕ) → Alters form a b (half form level) level n → Takes form a b level (n ∷ []) (n ∷ [])
+  alters_takes a b level n one = record {
+    same = one.same;
+    rows = λ pre post. one.rows (half form level) pre post (omega arith);
+    held = one.held;
+    bytes = λ pre post. one.bytes (half form level) pre post (omega arith);
+    freed = one.freed;
+    spare = one.spare;
+  }

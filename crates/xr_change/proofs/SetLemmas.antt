@@ -1,13 +1,18 @@
 -- Records that ascend, with one more, one less, or another in the place of one, by the place where it stands.
-use Rattle.std.proofs.Common.{◌≡◌, ℕ, zero, suc, ◌+◌, ◌-◌, ◌<◌, ◌≤◌, Bool, true, false, if◌then◌else◌, List, [], ◌∷◌, ◌++◌, length, get_or, refl, sym, ap, ◌∙◌, subst, arith, ⊎_elim}
-use Rattle.std.proofs.lemmas.Bool.{cases_eq, cases_lt}
+use Rattle.std.proofs.Common.{◌≡◌, ℕ, zero, suc, ◌+◌, ◌<◌, ◌≤◌, Bool, true, false, if◌then◌else◌, List, [], ◌∷◌, ◌++◌, length, get_or, refl, sym, ap, ◌∙◌, subst, arith, ⊎_elim}
+use Rattle.std.proofs.lemmas.Bool.{cases_lt, cond_both}
 use Rattle.std.proofs.lemmas.Cmp.{tied_itself}
 use Rattle.std.proofs.lemmas.List.{get_or-append-add, get_or_append_left, get_or_default, length-append}
+use Rattle.std.proofs.lemmas.List.Elements.{All-cons, All-contains, All-tail, Contains-append_right}
+use Rattle.std.proofs.lemmas.List.Kept.{AllPairs-cons}
 use Rattle.std.specs.Cmp.{IsTotalOrder}
 use Rattle.std.specs.List.{All, AllPairs, Contains, insert, remove, slice_set}
 use Rattle.std.specs.Ordering.{is_eq, is_lt, ordering_reverse}
 use Rattle.std.specs.declared.cmp.Ordering.{Ordering}
 use Rattle.std.specs.declared.cmp.Ordering.TheVariants.{Less, Equal, Greater}
+use Rattle.xr_blocks.specs.Form.{Form, IsForm}
+use Rattle.xr_blocks.specs.Tree.{AreRecords}
+use Rattle.xr_change.proofs.RowBlocks.{same_or_other}
 use Rattle.xr_change.specs.Sets.{inserted, removed, replaced}
 use Rattle.xr_lookup.specs.Cuts.{IsPlaceOf}
 
@@ -57,7 +62,8 @@ module _ {X : Type 0} (order : X → X → Ordering) (r : X) where
       rw (not_equal (order x r) (first_less x xs k place)) (ap (λ (rest : List X). x ∷ rest) (replaced_at new xs k (place_down x xs k place) (omega (arith, within)) here))
 
 -- a record of a list that ascends stands at its place
-module _ {X : Type 0} (order : X → X → Ordering) (total : IsTotalOrder order) (r : X) (xs : List X) (ascend : AllPairs (λ (x y : X). order x y ≡ Less) xs) (k : ℕ) (place : IsPlaceFor order r xs k) where
+module _ {X : Type 0} (order : X → X → Ordering) (total : IsTotalOrder order) (r : X) (xs : List X)
+    (ascend : AllPairs (λ (x y : X). order x y ≡ Less) xs) (k : ℕ) (place : IsPlaceFor order r xs k) where
   not_before : (j : ℕ) → j < k → get_or xs j r ≡ r → ⊥
   not_before j below is =
       let less = place.below j r (omega arith) below in
@@ -73,19 +79,18 @@ module _ {X : Type 0} (order : X → X → Ordering) (total : IsTotalOrder order
   pub stands_at : Contains xs r → (k < length xs) × ((d : X) → is_eq (order (get_or xs k d) r) ≡ true)
   stands_at found =
       let j = found.0 in
-      ⊎_elim
-      (λ (same : j ≡ k).
+      same_or_other j k
+      (λ same.
       let within : k < length xs = subst (λ (i : ℕ). i < length xs) same found.1 in (
         within,
         λ d.
             let here : get_or xs k d ≡ r = get_or_default xs k d r within ∙ subst (λ (i : ℕ). get_or xs i r ≡ r) same found.2 in
             ap (λ (x : X). is_eq (order x r)) here ∙ ap is_eq (tied_itself total r),
       ))
-      (λ (other : j ≡ k → ⊥). ⊎_elim
+      (λ other. ⊎_elim
       (λ (below : j < k). absurd (not_before j below found.2))
       (λ (above : k ≤ j). absurd (not_behind j found.1 (omega (arith, above, other)) found.2))
       (cases_lt j k))
-      (cases_eq j k)
 
 -- a record that isn't the first of a list stands behind it
 later : {X : Type 0} (order : X → X → Ordering) (total : IsTotalOrder order) (r x : X) (xs : List X) → Contains (x ∷ xs) r → is_eq (order x r) ≡ false → Contains xs r
@@ -158,31 +163,6 @@ module _ {X : Type 0} (order : X → X → Ordering) (total : IsTotalOrder order
       let parts = less_down x front below in
       rw parts.0 (ap (λ (rest : List X). x ∷ rest) (replaced_between new front xs behind parts.1 found))
 
-  itself_apart : order r r ≡ Less → ⊥
-  itself_apart less = let lie = sym less ∙ tied_itself total r in absurd cc
-
-  -- a record that is neither in front nor behind is between
-  pub held_between : (front xs behind : List X) → All (λ (y : X). order y r ≡ Less) front → All (λ (y : X). order r y ≡ Less) behind
-      → Contains (front ++ (xs ++ behind)) r → Contains xs r
-  held_between front xs behind below above (j, within, is) = ⊎_elim
-      (λ (low : j < length front).
-      let here : get_or front j r ≡ r = sym (get_or_append_left front (xs ++ behind) r j low) ∙ is in
-      absurd (itself_apart (ap (λ (y : X). order y r) (sym here) ∙ below j r low)))
-      (λ (high : length front ≤ j).
-      let i : ℕ = j - length front in
-      let place : j ≡ length front + i = omega (arith, high) in
-      let rest : get_or (xs ++ behind) i r ≡ r = sym (get_or-append-add front (xs ++ behind) i r) ∙ ap (λ (m : ℕ). get_or (front ++ (xs ++ behind)) m r) (sym place) ∙ is in
-      ⊎_elim
-      (λ (low : i < length xs). (i, low, sym (get_or_append_left xs behind r i low) ∙ rest))
-      (λ (top : length xs ≤ i).
-      let m : ℕ = i - length xs in
-      let spot : i ≡ length xs + m = omega (arith, top) in
-      let last : get_or behind m r ≡ r = sym (get_or-append-add xs behind m r) ∙ ap (λ (p : ℕ). get_or (xs ++ behind) p r) (sym spot) ∙ rest in
-      let inside : m < length behind = omega (arith, within, place, spot, length-append front (xs ++ behind), length-append xs behind) in
-      absurd (itself_apart (ap (order r) (sym last) ∙ above m r inside)))
-      (cases_lt i (length xs)))
-      (cases_lt j (length front))
-
 -- what stands in front of a record of a list that ascends is below it
 pub front_below : {X : Type 0} (order : X → X → Ordering) (front ys : List X) (r : X) → AllPairs (λ (x y : X). order x y ≡ Less) (front ++ ys) → Contains ys r
     → All (λ (x : X). order x r ≡ Less) front
@@ -190,3 +170,61 @@ front_below order front ys r pairs (j, within, is) k d inside =
     let both = pairs k (length front + j) d (omega (arith, inside)) (omega (arith, within, length-append front ys)) in
     let last : get_or (front ++ ys) (length front + j) d ≡ r = get_or-append-add front ys j d ∙ get_or_default ys j d r within ∙ is in
     ap (λ (x : _). order x r) (sym (get_or_append_left front ys d k inside)) ∙ ap (order (get_or (front ++ ys) k d)) (sym last) ∙ both
+
+-- a list with one record less keeps what holds of each and of each pair
+module _ {X : Type 0} (order : X → X → Ordering) (r : X) where
+  all_removed : (P : X → Type 0) (xs : List X) → All P xs → All P (removed order r xs)
+  unfolding removed
+  all_removed P [] all = all
+  all_removed P (x ∷ xs) all =
+      let rest = All-tail P x xs all in
+      cond_both (is_eq (order x r)) xs (x ∷ removed order r xs) (All P) (λ is. rest) (λ is. All-cons P x (removed order r xs) (all 0 x (omega arith)) (all_removed P xs rest))
+
+  pairs_removed : (R : X → X → Type 0) (xs : List X) → AllPairs R xs → AllPairs R (removed order r xs)
+  unfolding removed
+  pairs_removed R [] pairs = pairs
+  pairs_removed R (x ∷ xs) pairs =
+      let first : All (R x) xs = λ k d within. pairs 0 (suc k) d (omega arith) (omega (arith, within)) in
+      let rest : AllPairs R xs = λ i j d less within. pairs (suc i) (suc j) d (omega (arith, less)) (omega (arith, within)) in
+      cond_both (is_eq (order x r)) xs (x ∷ removed order r xs) (AllPairs R) (λ is. rest)
+      (λ is. AllPairs-cons R x (removed order r xs) (all_removed (R x) xs first) (pairs_removed R xs rest))
+
+  length_removed : (xs : List X) → length (removed order r xs) ≤ length xs
+  unfolding removed
+  length_removed [] = omega arith
+  length_removed (x ∷ xs) =
+      cond_both (is_eq (order x r)) xs (x ∷ removed order r xs) (λ (ys : List X). length ys ≤ suc (length xs)) (λ is. omega arith) (λ is. omega (arith, length_removed xs))
+
+  -- a record that stands in the place of another is one of the list
+  replaced_holds : IsTotalOrder order → (new : X) (xs : List X) → Contains xs r → Contains (replaced order r new xs) new
+  unfolding replaced
+  replaced_holds total new [] found = absurd (omega (arith, found.1))
+  replaced_holds total new (x ∷ xs) (zero, within, is) =
+      let same : is_eq (order x r) ≡ true = ap (λ (y : X). is_eq (order y r)) is ∙ ap is_eq (tied_itself total r) in
+      rw (same) (0, omega arith, refl)
+  replaced_holds total new (x ∷ xs) (suc k, within, is) =
+      cond_both (is_eq (order x r)) (new ∷ xs) (x ∷ replaced order r new xs) (λ (ys : List X). Contains ys new) (λ same. (0, omega arith, refl))
+      (λ other. Contains-append_right (x ∷ []) (replaced order r new xs) new (replaced_holds total new xs (k, omega (arith, within), is)))
+
+pub removed_rules : {X : Type 0} (form : Form X) (r : X) (xs : List X) → AreRecords form xs → AreRecords form (removed form.order r xs)
+removed_rules form r xs rules = record {
+  valid = all_removed form.order r (λ x. form.is_valid x ≡ true) xs rules.valid;
+  ascend = pairs_removed form.order r (λ x y. form.order x y ≡ Less) xs rules.ascend;
+  agree = pairs_removed form.order r (λ x y. form.agree x y ≡ true) xs rules.agree;
+  few = omega (arith, length_removed form.order r xs, rules.few);
+}
+
+pub replaced_valid : {X : Type 0} (form : Form X) → IsForm form → (old new : X) (xs : List X) → Contains xs old → AreRecords form (replaced form.order old new xs)
+    → form.is_valid new ≡ true
+replaced_valid form laws old new xs found rules =
+    All-contains (λ x. form.is_valid x ≡ true) (replaced form.order old new xs) new rules.valid (replaced_holds form.order old laws.total new xs found)
+
+picked : {X : Type 0} (P : X → Type 0) (test : Bool) (r x : X) (more xs : List X) → (All P more → P r) → All P (if test then x ∷ more else r ∷ x ∷ xs) → P r
+picked P true r x more xs within all = within (λ k d inside. all (suc k) d (omega (arith, inside)))
+picked P false r x more xs within all = all 0 r (omega arith)
+
+-- what holds of all records holds of the new one
+pub inserted_has : {X : Type 0} (P : X → Type 0) (order : X → X → Ordering) (r : X) (xs : List X) → All P (inserted order r xs) → P r
+unfolding inserted
+inserted_has P order r [] all = all 0 r (omega arith)
+inserted_has P order r (x ∷ xs) all = picked P (is_lt (order x r)) r x (inserted order r xs) xs (inserted_has P order r xs) all

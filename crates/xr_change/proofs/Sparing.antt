@@ -1,38 +1,28 @@
 -- The child on the way of a record that goes has an item to spare: it has it already, or it was given some of a neighbour's, or
 -- all of them.
-use Rattle.std.proofs.Common.{◌≡◌, ℕ, zero, suc, ◌+◌, ◌<◌, ◌≤◌, ◌&&◌, Bool, true, false, if◌then◌else◌, List, [], ◌∷◌, ◌++◌, length, take, drop, map, get_or, refl, sym, ap, ◌∙◌, subst, arith, ⊎_elim}
-use Rattle.std.proofs.lemmas.Bool.{cases_eq}
-use Rattle.std.proofs.lemmas.Cmp.{tied_itself}
-use Rattle.std.proofs.Math.ListN.{get_or-append}
+use Rattle.std.proofs.Common.{◌≡◌, ℕ, zero, suc, ◌+◌, ◌<◌, ◌≤◌, true, false, List, [], ◌∷◌, ◌++◌, length, take, drop, map, get_or, refl, sym, ap, ◌∙◌, subst, arith}
 use Rattle.std.proofs.Math.Seq.{drop-append_seam, take-append_seam}
-use Rattle.std.proofs.lemmas.List.{append-nil, append_assoc, get_or-append-add, length-append, length-map, length-take-le, map-append, take-append-drop, take-append-le}
-use Rattle.std.proofs.lemmas.List.Elements.{All-contains, Contains-append_cases, Contains-append_left, Contains-append_right}
+use Rattle.std.proofs.lemmas.List.{append-nil, append_assoc, length-append, map-append, take-append-drop, take-append-le}
+use Rattle.std.proofs.lemmas.List.Elements.{Contains-append_left, Contains-append_right}
 use Rattle.std.specs.List.{Contains}
-use Rattle.std.specs.Prelude.{nat_lt}
-use Rattle.std.specs.declared.cmp.Ordering.TheVariants.{Equal, Less}
 use Rattle.xr_blocks.specs.Form.{Form, IsForm}
 use Rattle.xr_blocks.specs.Overlay.{Blocks, block_at, free_below, free_count, is_free, pool_size}
 use Rattle.xr_blocks.specs.Rows.{half, named_below}
 use Rattle.xr_blocks.specs.Times.{times}
 use Rattle.xr_blocks.specs.Tree.{records_of, tree_held}
 use Rattle.xr_blocks.specs.TreeBlock.{Entry, entries_in, records_in}
-use Rattle.xr_change.proofs.AltersLemmas.{alters_same}
-use Rattle.xr_change.proofs.ChildFacts.{one_flat, two_flat}
-use Rattle.xr_change.proofs.Descent.{child_least, records_around}
-use Rattle.xr_change.proofs.Grouping.{blocks_below, times_rest_append}
-use Rattle.xr_change.proofs.InTree.{leaf_alone}
-use Rattle.xr_change.proofs.ItemFacts.{items_counted}
-use Rattle.xr_change.proofs.Neighbours.{AreKnown}
-use Rattle.xr_change.proofs.Rearranging.{merge_regroups, merge_same, share_regroups, share_same}
-use Rattle.xr_change.proofs.RegroupLemmas.{below_stays}
-use Rattle.xr_change.proofs.RowBlocks.{children, holds_same, records_append, records_below, records_same}
-use Rattle.xr_change.proofs.Written.{unchanged_less}
-use Rattle.xr_change.specs.Alters.{HoldsSame}
-use Rattle.xr_change.specs.Items.{Item, items_in}
-use Rattle.xr_change.specs.Rearranges.{IsSameUnder, Merges, Shares}
-use Rattle.xr_change.specs.Regroups.{HaveSameItems, Regroups}
-use Rattle.xr_change.specs.Spares.{HasSpare}
-use Rattle.xr_change.specs.Ways.{IsInTree, IsWay, child_of, item_count}
+use Rattle.xr_change.proofs.ItemFacts.{items_counted, one_flat, two_flat}
+use Rattle.xr_change.proofs.Descent.{child_in_tree, child_least, in_tree_still, removed_there, way_for, way_here}
+use Rattle.xr_change.proofs.Grouping.{times_rest_append}
+use Rattle.xr_change.proofs.InTree.{in_row, leaf_alone}
+use Rattle.xr_change.proofs.NodeChanges.{child_after, long_after, regroups_same}
+use Rattle.xr_change.proofs.Written.{for_two, more_free, unchanged_less}
+use Rattle.xr_change.proofs.RowBlocks.{children, records_append, records_below, records_same, times_row, same_or_other}
+use Rattle.xr_change.specs.Alters.{AreKnown, HoldsSame}
+use Rattle.xr_change.specs.Regroups.{Item, Regroups, blocks_below, items_in}
+use Rattle.xr_change.specs.Changes.{HasSpare}
+use Rattle.xr_change.specs.Sets.{removed}
+use Rattle.xr_change.specs.Ways.{IsInTree, child_of, item_count}
 use Rattle.xr_change.specs.Writes.{MarksAtMost, is_changed, unchanged}
 use Rattle.xr_lookup.specs.UnderLaws.{half_some}
 
@@ -51,23 +41,6 @@ second_longer xs ys us vs same long =
 module _ {X : Type 0} (form : Form X) (a s : Blocks) where
   abbrev items : (level : ℕ) → Blocks → ℕ → List (Item X level)
   items level b m = items_in form level (block_at b m)
-
-  -- the items of two that share theirs, and of one that has those of both
-  shared_items : (c d level : ℕ) → HaveSameItems (tree_held form a) (tree_held form s) level (c ∷ d ∷ []) (c ∷ d ∷ [])
-      → items level s c ++ items level s d ≡ items level a c ++ items level a d
-  unfolding HaveSameItems items_in
-  shared_items c d zero same =
-      sym (two_flat (λ (x : ℕ). records_in form (block_at s x)) c d) ∙ same ∙ two_flat (λ (x : ℕ). records_in form (block_at a x)) c d
-  shared_items c d (suc level) same =
-      sym (two_flat (λ (x : ℕ). entries_in form (block_at s x)) c d) ∙ same ∙ two_flat (λ (x : ℕ). entries_in form (block_at a x)) c d
-
-  merged_items : (c d level : ℕ) → HaveSameItems (tree_held form a) (tree_held form s) level (c ∷ d ∷ []) (c ∷ [])
-      → items level s c ≡ items level a c ++ items level a d
-  unfolding HaveSameItems items_in
-  merged_items c d zero same =
-      sym (one_flat (λ (x : ℕ). records_in form (block_at s x)) c) ∙ same ∙ two_flat (λ (x : ℕ). records_in form (block_at a x)) c d
-  merged_items c d (suc level) same =
-      sym (one_flat (λ (x : ℕ). entries_in form (block_at s x)) c) ∙ same ∙ two_flat (λ (x : ℕ). entries_in form (block_at a x)) c d
 
   -- what stands under a block stands under one that has its items among others
   kept_under : (level x y : ℕ) (front behind : List (Item X level)) → items level s y ≡ front ++ (items level a x ++ behind)
@@ -96,231 +69,155 @@ module _ {X : Type 0} (form : Form X) (a s : Blocks) where
       (Contains-append_left (records_of form a level held) (records_of form s level (map child behind)) r
       (subst (λ (rs : List X). Contains rs r) (records_below form a level (x ∷ [])) there)))
 
--- where all that was free is free still, as many blocks are free at least
-freed_more : (first before after : Bool) → (before ≡ true → after ≡ true) → (if first && before then 1 else 0) ≤ (if first && after then 1 else 0)
-freed_more false before after stays = omega arith
-freed_more true false after stays = omega arith
-freed_more true true after stays = subst (λ (test : Bool). 1 ≤ (if test then 1 else 0)) (sym (stays refl)) (omega arith)
-
-pub more_below : (a b : Blocks) (n : ℕ) → ((m : ℕ) → is_free a m ≡ true → is_free b m ≡ true) → free_below a n ≤ free_below b n
-unfolding free_below
-more_below a b zero stays = omega arith
-more_below a b (suc n) stays = omega (arith, more_below a b n stays, freed_more (nat_lt 0 n) (is_free a n) (is_free b n) (stays n))
-
 -- two neighbouring children of a node that were rearranged
-module _ {X : Type 0} (form : Form X) (laws : IsForm form) (a s : Blocks) (known : AreKnown a) (level n j c d : ℕ) (here : IsInTree form a (suc level) n)
-    (inside : suc j < length (entries_in form (block_at a n))) (new : List ℕ)
-    (made : (let cs = named_below (tree_held form a) n in Regroups form a s level n (take j cs) (c ∷ d ∷ []) new (drop (suc (suc j)) cs))) where
+module _ {X : Type 0} (form : Form X) (laws : IsForm form) (a s : Blocks) (known : AreKnown a) (level n j : ℕ) (here : IsInTree form a (suc level) n)
+    (inside : j + 1 < length (entries_in form (block_at a n))) where
+  abbrev c : ℕ
+  c = child_of form a n j
+
+  abbrev d : ℕ
+  d = child_of form a n (j + 1)
+
   abbrev es : List Entry
   es = entries_in form (block_at a n)
 
   abbrev cs : List ℕ
   cs = named_below (tree_held form a) n
 
-  abbrev front : List ℕ
-  front = take j cs
+  abbrev has : Blocks → ℕ → List (Item X level)
+  has b m = items_in form level (block_at b m)
 
-  abbrev behind : List ℕ
-  behind = drop (suc (suc j)) cs
+  module _ (news : List ℕ) (made : Regroups form a s level n j (j + 2) (c ∷ d ∷ []) (c ∷ news)) where
+    -- what stands below both holds the same
+    first_holds : (m : ℕ) → 1 ≤ times m (blocks_below form a level (c ∷ [])) → HoldsSame form a s m
+    first_holds m some = made.below m (omega (arith, some, times_rest_append form a m level (c ∷ []) (d ∷ [])))
 
-  -- what stands below both holds the same
-  pair_hold : (m : ℕ) → 1 ≤ times m (blocks_below form a level (c ∷ d ∷ [])) → HoldsSame form a s m
-  pair_hold m some =
-      let left : List ℕ = children form a here.pre ++ front in
-      let right : List ℕ = behind ++ children form a here.post in
-      holds_same form a s m (below_stays form a s level n front (c ∷ d ∷ []) new behind made laws known here.least here.pre here.post here.rows m (omega (
-        arith,
-        some,
-        times_rest_append form a m level left ((c ∷ d ∷ []) ++ right),
-        times_rest_append form a m level (c ∷ d ∷ []) right,
-      )))
+    second_holds : (m : ℕ) → 1 ≤ times m (blocks_below form a level (d ∷ [])) → HoldsSame form a s m
+    second_holds m some = made.below m (omega (arith, some, times_rest_append form a m level (c ∷ []) (d ∷ [])))
 
-  first_holds : (m : ℕ) → 1 ≤ times m (blocks_below form a level (c ∷ [])) → HoldsSame form a s m
-  first_holds m some = pair_hold m (omega (arith, some, times_rest_append form a m level (c ∷ []) (d ∷ [])))
+    long_now : length (entries_in form (block_at s n)) + 2 ≡ length es + length (c ∷ news)
+    long_now = long_after form a s level n j (j + 2) (c ∷ d ∷ []) (c ∷ news) made refl (omega (arith, inside))
 
-  second_holds : (m : ℕ) → 1 ≤ times m (blocks_below form a level (d ∷ [])) → HoldsSame form a s m
-  second_holds m some = pair_hold m (omega (arith, some, times_rest_append form a m level (c ∷ []) (d ∷ [])))
-
-  -- the children that the node names now
-  names_now : named_below (tree_held form s) n ≡ front ++ (new ++ behind)
-  names_now = ap (map (λ (e : Entry). e.child)) made.holds ∙ made.names
-
-  front_long : length front ≡ j
-  front_long = length-take-le j cs (omega (arith, inside, length-map es (λ (e : Entry). e.child)))
-
-  child_now : (i k : ℕ) → k ≡ j + i → i < length new → child_of form s n k ≡ get_or new i 0
-  child_now i k is within =
-      let place : k ≡ length front + i = omega (arith, is, front_long) in
-      ap (λ (ms : List ℕ). get_or ms k 0) names_now ∙ ap (λ (p : ℕ). get_or (front ++ (new ++ behind)) p 0) place
-      ∙ get_or-append-add front (new ++ behind) i 0 ∙ get_or-append new behind 0 i within
-
-  within_now : j + length new ≤ length (entries_in form (block_at s n))
-  within_now =
-      let long = ap length names_now in
-      omega (
-        arith,
-        long,
-        front_long,
-        length-map (entries_in form (block_at s n)) (λ (e : Entry). e.child),
-        length-append front (new ++ behind),
-        length-append new behind,
-      )
-
-  -- the i-th of them has the record, and an item to spare
-  spare_made : (i k y : ℕ) → k ≡ j + i → i < length new → get_or new i 0 ≡ y
-      → ((floor : ℕ) → floor + 1 ≤ length es → IsSameUnder form a s floor (suc level) n)
-      → ((m : ℕ) → is_free a m ≡ true → is_free s m ≡ true) → MarksAtMost a s (unchanged a n + 3)
-      → is_changed s n ≡ true → is_changed s y ≡ true → half form level + 1 ≤ item_count form s level y
-      → (r : X) → Contains (records_of form s level (y ∷ [])) r → HasSpare form a s level n r k
-  spare_made i k y place within is same free marks changed child_changed many r there =
-      let child : child_of form s n k ≡ y = child_now i k place within ∙ is in
-      record {
-        same = same;
-        within = omega (arith, place, within, within_now);
-        held = subst (λ (m : ℕ). Contains (records_of form s level (m ∷ [])) r) (sym child) there;
-        spare = subst (λ (m : ℕ). half form level + 1 ≤ item_count form s level m) (sym child) many;
-        free = subst (λ (size : ℕ). free_count a ≤ free_below s size) (sym made.same.pool) (more_below a s (pool_size a) free);
-        stay = marks.stay;
-        few = omega (
+    -- what was free is free still
+    child_used : (i : ℕ) → i < length es → is_free a (child_of form a n i) ≡ false
+    child_used i within =
+        let at = child_in_tree form a level n i here within in
+        (at.rows.owned (child_of form a n i) (omega (
           arith,
-          marks.few,
-          unchanged_less true (is_changed s n) (λ was. changed),
-          unchanged_less true (is_changed s (child_of form s n k)) (λ was. ap (is_changed s) child ∙ child_changed),
-        );
-      }
+          in_row form a level (child_of form a n i) at,
+          times_row form a (child_of form a n i) level
+              (at.pre ++ child_of form a n i ∷ at.post),
+        ))).taken
 
-module _ {X : Type 0} (form : Form X) (laws : IsForm form) (a s : Blocks) (known : AreKnown a) (level n j c d : ℕ) (here : IsInTree form a (suc level) n) where
-  -- the items of two blocks are so many
-  shared_count : HaveSameItems (tree_held form a) (tree_held form s) level (c ∷ d ∷ []) (c ∷ d ∷ [])
-      → item_count form s level c + item_count form s level d ≡ item_count form a level c + item_count form a level d
-  shared_count same =
-      let long = ap length (shared_items form a s c d level same) in
-      omega (
-        arith,
-        long,
-        length-append (items form a s level s c) (items form a s level s d),
-        length-append (items form a s level a c) (items form a s level a d),
-        items_counted form s level c,
-        items_counted form s level d,
-        items_counted form a level c,
-        items_counted form a level d,
-      )
+    free_still : ((x : ℕ) → times x (c ∷ news) ≤ times x (c ∷ d ∷ [])) → (m : ℕ) → is_free a m ≡ true → is_free s m ≡ true
+    free_still sub m free = same_or_other (times m (c ∷ d ∷ [])) 0
+        (λ out. made.spare m free (omega (arith, out, sub m)))
+        (λ within.
+        let used = for_two (λ (x : ℕ). is_free a x ≡ false) c d (child_used j (omega (arith, inside))) (child_used (j + 1) inside) m (omega (arith, within)) in
+        let lie : true ≡ false = sym free ∙ used in absurd cc)
 
-  merged_count : HaveSameItems (tree_held form a) (tree_held form s) level (c ∷ d ∷ []) (c ∷ [])
-      → item_count form s level c ≡ item_count form a level c + item_count form a level d
-  merged_count same =
-      let long = ap length (merged_items form a s c d level same) in
-      omega (
-        arith,
-        long,
-        length-append (items form a s level a c) (items form a s level a d),
-        items_counted form s level c,
-        items_counted form a level c,
-        items_counted form a level d,
-      )
+    -- the i-th of them has the record, and an item to spare
+    spare_made : ((x : ℕ) → times x (c ∷ news) ≤ times x (c ∷ d ∷ [])) → (i k y : ℕ) → k ≡ j + i → i < length (c ∷ news) → get_or (c ∷ news) i 0 ≡ y → MarksAtMost a s (unchanged a n + 3)
+        → is_changed s n ≡ true → is_changed s y ≡ true → half form level + 1 ≤ item_count form s level y
+        → (r : X) → Contains (records_of form s level (y ∷ [])) r → HasSpare form a s level n r k
+    spare_made sub i k y place within is marks changed child_changed many r there =
+        let child : child_of form s n k ≡ y = child_after form a s level n j (j + 2) (c ∷ d ∷ []) (c ∷ news) made refl (omega (arith, inside)) i k place within ∙ is in
+        let held : Contains (records_of form s level (child_of form s n k ∷ [])) r = subst (λ (m : ℕ). Contains (records_of form s level (m ∷ [])) r) (sym child) there in
+        let in_node : k < length (entries_in form (block_at s n)) = omega (arith, place, within, inside, long_now) in
+        let same = λ (floor : ℕ) (low : floor + 1 ≤ length es).
+        regroups_same form a s level n j (j + 2) (c ∷ d ∷ []) (c ∷ news) made here floor (omega (arith, low, long_now)) in
+        let now = in_tree_still form a s (suc level) n here (same 0 (omega (arith, inside))) in
+        let alters = (same 0 (omega (arith, inside))).alters in
+        let pool : pool_size s ≡ pool_size a = alters.same.pool in
+        record {
+          way = way_for form laws s level n k now in_node a 1 (removed form.order r) same (omega (arith, inside))
+              (subst (λ (m : ℕ). half form level + 1 ≤ item_count form s level m) (sym child) many) (removed_there form laws s level n k now in_node r held) marks.stay
+              (omega (
+                arith,
+                marks.few,
+                unchanged_less true (is_changed s n) (λ was. changed),
+                unchanged_less true (is_changed s (child_of form s n k)) (λ was. ap (is_changed s) child ∙ child_changed),
+              ));
+          held = held;
+          free = subst (λ (size : ℕ). free_count a ≤ free_below s size) (sym pool) (more_free a s (pool_size a) (free_still sub));
+        }
 
   -- one took the items of the other
-  module _ (merge : Merges form a s level n j c d) (marks : MarksAtMost a s (unchanged a n + 3)) (changed : (is_changed s n ≡ true) × (is_changed s c ≡ true)) where
-    merged : (let cs = named_below (tree_held form a) n in Regroups form a s level n (take j cs) (c ∷ d ∷ []) (c ∷ []) (drop (suc (suc j)) cs))
-    merged = merge_regroups form laws a s known level n here.least here.pre here.post here.rows j c d merge
-
-    freed : (m : ℕ) → is_free a m ≡ true → is_free s m ≡ true
-    freed m free = ⊎_elim
-        (λ (same : m ≡ d). ap (is_free s) same ∙ merge.freed)
-        (λ (other : m ≡ d → ⊥). merge.free m other ∙ free)
-        (cases_eq m d)
-
-    half_first : half form level ≤ item_count form a level c
-    half_first = subst (λ (x : ℕ). half form level ≤ item_count form a level x) merge.child (child_least form a level n j here (omega (arith, merge.within)))
-
-    half_second : half form level ≤ item_count form a level d
-    half_second = subst (λ (x : ℕ). half form level ≤ item_count form a level x) merge.next_child (child_least form a level n (suc j) here merge.within)
+  module _ (merge : Regroups form a s level n j (j + 2) (c ∷ d ∷ []) (c ∷ [])) (marks : MarksAtMost a s (unchanged a n + 3)) (changed : (is_changed s n ≡ true) × (is_changed s c ≡ true)) where
+    merged : has s c ≡ has a c ++ has a d
+    merged = sym (one_flat (has s) c) ∙ merge.items ∙ two_flat (has a) c d
 
     merge_spare : (r : X) → Contains (records_of form s level (c ∷ [])) r → HasSpare form a s level n r j
     merge_spare =
-        spare_made form laws a s known level n j c d here merge.within (c ∷ []) merged 0 j c (omega arith) (omega arith) refl
-        (λ floor low. merge_same form laws a s known level n here.least here.pre here.post here.rows j c d merge floor low) freed marks changed.0 changed.1
-        (omega (arith, half_first, half_second, half_some form laws level, merged_count merge.items))
-
-    merge_items : items form a s level s c ≡ items form a s level a c ++ items form a s level a d
-    merge_items = merged_items form a s c d level merge.items
+        spare_made [] merge (λ x. omega arith) 0 j c (omega arith) (omega arith) refl marks changed.0 changed.1
+        (omega (
+          arith,
+          child_least form a level n j here (omega (arith, inside)),
+          child_least form a level n (j + 1) here inside,
+          half_some form laws level,
+          ap length merged,
+          length-append (has a c) (has a d),
+          items_counted form s level c,
+          items_counted form a level c,
+          items_counted form a level d,
+        ))
 
     pub merge_first : (r : X) → Contains (records_of form a level (c ∷ [])) r → HasSpare form a s level n r j
-    merge_first r there =
-        merge_spare r (kept_under form a s level c c [] (items form a s level a d) merge_items
-        (first_holds form laws a s known level n j c d here merge.within (c ∷ []) merged) r there)
+    merge_first r there = merge_spare r (kept_under form a s level c c [] (has a d) merged (first_holds [] merge) r there)
 
     pub merge_second : (r : X) → Contains (records_of form a level (d ∷ [])) r → HasSpare form a s level n r j
     merge_second r there =
-        merge_spare r (kept_under form a s level d c (items form a s level a c) []
-        (merge_items ∙ ap (λ (rest : List (Item X level)). items form a s level a c ++ rest) (sym (append-nil (items form a s level a d))))
-        (second_holds form laws a s known level n j c d here merge.within (c ∷ []) merged) r there)
+        merge_spare r (kept_under form a s level d c (has a c) [] (merged ∙ ap (λ (rest : List (Item X level)). has a c ++ rest) (sym (append-nil (has a d))))
+        (second_holds [] merge) r there)
 
   -- both share their items anew
-  module _ (share : Shares form a s level n j c d) (marks : MarksAtMost a s (unchanged a n + 2))
+  module _ (share : Regroups form a s level n j (j + 2) (c ∷ d ∷ []) (c ∷ d ∷ [])) (marks : MarksAtMost a s (unchanged a n + 2))
       (changed : (is_changed s n ≡ true) × (is_changed s c ≡ true) × (is_changed s d ≡ true)) where
-    shared : (let cs = named_below (tree_held form a) n in Regroups form a s level n (take j cs) (c ∷ d ∷ []) (c ∷ d ∷ []) (drop (suc (suc j)) cs))
-    shared = share_regroups form laws a s known level n here.least here.pre here.post here.rows j c d share
+    shared : has s c ++ has s d ≡ has a c ++ has a d
+    shared = sym (two_flat (has s) c d) ∙ share.items ∙ two_flat (has a) c d
 
-    share_items : items form a s level s c ++ items form a s level s d ≡ items form a s level a c ++ items form a s level a d
-    share_items = shared_items form a s c d level share.items
+    shared_count : item_count form s level c + item_count form s level d ≡ item_count form a level c + item_count form a level d
+    shared_count =
+        omega (
+          arith,
+          ap length shared,
+          length-append (has s c) (has s d),
+          length-append (has a c) (has a d),
+          items_counted form s level c,
+          items_counted form s level d,
+          items_counted form a level c,
+          items_counted form a level d,
+        )
 
     share_spare : (i k y : ℕ) → k ≡ j + i → i < 2 → get_or (c ∷ d ∷ []) i 0 ≡ y → is_changed s y ≡ true → half form level + 1 ≤ item_count form s level y
         → (r : X) → Contains (records_of form s level (y ∷ [])) r → HasSpare form a s level n r k
     share_spare i k y place within is child_changed many =
-        spare_made form laws a s known level n j c d here share.within (c ∷ d ∷ []) shared i k y place within is
-        (λ floor low. share_same form laws a s known level n here.least here.pre here.post here.rows j c d share floor (omega (arith, low)))
-        (λ m free. share.free m ∙ free) (record { stay = marks.stay; few = omega (arith, marks.few) }) changed.0 child_changed many
+        spare_made (d ∷ []) share (λ x. omega arith) i k y place within is (record { stay = marks.stay; few = omega (arith, marks.few) }) changed.0 child_changed many
 
     pub share_first : item_count form a level c ≤ half form level → half form level + 1 ≤ item_count form s level c
         → (r : X) → Contains (records_of form a level (c ∷ [])) r → HasSpare form a s level n r j
     share_first low many r there =
         share_spare 0 j c (omega arith) (omega arith) refl changed.1 many r
-        (kept_under form a s level c c [] (drop (length (items form a s level a c)) (items form a s level s c))
-        (first_longer (items form a s level s c) (items form a s level s d) (items form a s level a c) (items form a s level a d) share_items
-        (omega (arith, low, many, items_counted form a level c, items_counted form s level c)))
-        (first_holds form laws a s known level n j c d here share.within (c ∷ d ∷ []) shared) r there)
+        (kept_under form a s level c c [] (drop (length (has a c)) (has s c))
+        (first_longer (has s c) (has s d) (has a c) (has a d) shared (omega (arith, low, many, items_counted form a level c, items_counted form s level c)))
+        (first_holds (d ∷ []) share) r there)
 
     pub share_second : item_count form a level d ≤ half form level → half form level + 1 + item_count form s level c ≤ item_count form a level c + item_count form a level d
         → (r : X) → Contains (records_of form a level (d ∷ [])) r → HasSpare form a s level n r (j + 1)
     share_second low many r there =
-        let count = shared_count share.items in
-        let rest : List (Item X level) = drop (length (items form a s level s c)) (items form a s level a c) in
-        share_spare 1 (j + 1) d refl (omega arith) refl changed.2 (omega (arith, many, count)) r
+        let rest : List (Item X level) = drop (length (has s c)) (has a c) in
+        share_spare 1 (j + 1) d refl (omega arith) refl changed.2 (omega (arith, many, shared_count)) r
         (kept_under form a s level d d rest []
-        (second_longer (items form a s level s c) (items form a s level s d) (items form a s level a c) (items form a s level a d) share_items
-        (omega (arith, low, many, count, items_counted form a level c, items_counted form s level c))
-        ∙ ap (λ (end : List (Item X level)). rest ++ end) (sym (append-nil (items form a s level a d))))
-        (second_holds form laws a s known level n j c d here share.within (c ∷ d ∷ []) shared) r there)
+        (second_longer (has s c) (has s d) (has a c) (has a d) shared (omega (arith, low, many, shared_count, items_counted form a level c, items_counted form s level c))
+        ∙ ap (λ (end : List (Item X level)). rest ++ end) (sym (append-nil (has a d))))
+        (second_holds (d ∷ []) share) r there)
 
 -- a child that has an item to spare already
-pub spare_here : {X : Type 0} (form : Form X) (a : Blocks) (level n k : ℕ) (r : X) → k < length (entries_in form (block_at a n))
+pub spare_here : {X : Type 0} (form : Form X) (laws : IsForm form) (a : Blocks) (level n k : ℕ) (r : X) (here : IsInTree form a (suc level) n)
+    (within : k < length (entries_in form (block_at a n)))
     → Contains (records_of form a level (child_of form a n k ∷ [])) r → half form level + 1 ≤ item_count form a level (child_of form a n k) → HasSpare form a a level n r k
-spare_here form a level n k r within there many = record {
-  same = λ floor low. record { alters = alters_same form a floor (suc level) n; records = refl };
-  within = within;
+spare_here form laws a level n k r here within there many = record {
+  way = way_here form laws a level n k here within 1 (removed form.order r) (omega (arith, within)) many (removed_there form laws a level n k here within r there);
   held = there;
-  spare = many;
   free = omega arith;
-  stay = λ m was. was;
-  few = omega (arith, unchanged_less false (is_changed a (child_of form a n k)) (λ lie. absurd cc));
 }
-
--- no record is less than itself
-not_less : {X : Type 0} (form : Form X) (laws : IsForm form) (r : X) → form.order r r ≡ Less → ⊥
-not_less form laws r less = let lie : Less ≡ Equal = sym less ∙ tied_itself laws.total r in absurd (cc (lie))
-
--- a record stands under the child on its way
-pub held_on_way : {X : Type 0} (form : Form X) (laws : IsForm form) (b : Blocks) (level n k : ℕ) (here : IsInTree form b (suc level) n) (r : X)
-    → IsWay form b level n r k → Contains (records_of form b (suc level) (n ∷ [])) r → Contains (records_of form b level (child_of form b n k ∷ [])) r
-held_on_way {X = X} form laws b level n k here r way there =
-    let before : List X = records_of form b level (take k (named_below (tree_held form b) n)) in
-    let own : List X = records_of form b level (child_of form b n k ∷ []) in
-    let behind : List X = records_of form b level (drop (suc k) (named_below (tree_held form b) n)) in
-    ⊎_elim
-    (λ (in_front : Contains before r). absurd (not_less form laws r (All-contains (λ (x : X). form.order x r ≡ Less) before r way.before in_front)))
-    (λ (rest : Contains (own ++ behind) r). ⊎_elim
-    (λ (found : Contains own r). found)
-    (λ (after : Contains behind r). absurd (not_less form laws r (All-contains (λ (x : X). form.order r x ≡ Less) behind r way.behind after)))
-    (Contains-append_cases own behind r rest))
-    (Contains-append_cases before (own ++ behind) r (subst (λ (rs : List X). Contains rs r) (records_around form b level n k here way.within) there))

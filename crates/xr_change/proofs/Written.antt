@@ -1,17 +1,137 @@
--- A block that is written, and blocks that are written one after the other.
-use Rattle.std.proofs.Common.{◌≡◌, ℕ, zero, suc, ◌+◌, ◌<◌, ◌≤◌, Bool, true, false, if◌then◌else◌, Option, Some, None, List, [], ◌∷◌, ◌++◌, length, get_or, set, refl, sym, ap, ◌∙◌, subst, arith, ⊎_elim}
-use Rattle.std.proofs.lemmas.Bool.{cases_eq, cases_lt}
+-- Blocks that are written one after the other, how many are free then, and lists after edits.
+use Rattle.std.proofs.Common.{◌≡◌, ℕ, zero, suc, ◌+◌, ◌<◌, ◌≤◌, List, [], ◌∷◌, ◌++◌, length, take, drop, get_or, set, refl, sym, ap, ◌∙◌, subst, arith, ⊎_elim, ◌*◌, ◌&&◌, Bool, true, false, if◌then◌else◌, ◌⊎◌, inl, inr, Option, Some, None}
+use Rattle.std.proofs.Math.Seq.{drop-cons, split_at}
+use Rattle.std.proofs.lemmas.Bool.Decides.{nat_tests}
+use Rattle.std.proofs.lemmas.Bool.{and_parts, lt-ltb, ltb-true, cases_lt}
 use Rattle.std.proofs.lemmas.List.{get_or-set_same, length-set}
+use Rattle.std.specs.List.{insert, remove}
 use Rattle.std.specs.Option.{option_to_list}
-use Rattle.xr_blocks.proofs.Times.{times_other}
+use Rattle.std.specs.Prelude.{nat_lt}
+use Rattle.xr_blocks.proofs.Times.{times_other, times_same}
+use Rattle.xr_blocks.specs.BitLaws.{bit_cleared, bit_cleared_other}
 use Rattle.xr_blocks.specs.Bits.{has_bit}
 use Rattle.xr_blocks.specs.Marks.{marked}
-use Rattle.xr_blocks.specs.Overlay.{AreBlocks, Blocks, pool_size, with_block}
+use Rattle.xr_blocks.specs.Overlay.{AreBlocks, Blocks, free_below, free_count, is_free, pool_size, with_taken, with_block}
 use Rattle.xr_blocks.specs.OverlayLaws.{block_beside}
 use Rattle.xr_blocks.specs.Times.{times}
-use Rattle.xr_change.proofs.AltersLemmas.{pool_same, pool_then}
-use Rattle.xr_change.proofs.RowBlocks.{not_alone, times_append}
+use Rattle.xr_change.proofs.RowBlocks.{not_alone, pool_then, times_append, same_or_other}
 use Rattle.xr_change.specs.Writes.{MarksAtMost, Writes, WritesOnly, is_changed, unchanged, unmarked}
+
+pub set_around : {X : Type 0} (xs : List X) (k : ℕ) (x : X) → k < length xs → set xs k x ≡ take k xs ++ x ∷ drop (suc k) xs
+set_around [] k x within = absurd (omega (arith, within))
+set_around (y ∷ ys) zero x within = refl
+set_around (y ∷ ys) (suc k) x within = ap (λ (rest : List _). y ∷ rest) (set_around ys k x (omega (arith, within)))
+
+pub set_insert : {X : Type 0} (xs : List X) (k : ℕ) (x y : X) → k < length xs
+    → insert (set xs k x) (suc k) y ≡ take k xs ++ (x ∷ y ∷ drop (suc k) xs)
+set_insert [] k x y within = absurd (omega (arith, within))
+set_insert (z ∷ zs) zero x y within = refl
+set_insert (z ∷ zs) (suc k) x y within = ap (λ (rest : List _). z ∷ rest) (set_insert zs k x y (omega (arith, within)))
+
+pub set_both : {X : Type 0} (xs : List X) (k : ℕ) (x y : X) → suc k < length xs
+    → set (set xs k x) (suc k) y ≡ take k xs ++ (x ∷ y ∷ drop (suc (suc k)) xs)
+set_both [] k x y within = absurd (omega (arith, within))
+set_both (z ∷ zs) zero x y within = ap (λ (rest : List _). x ∷ rest) (set_around zs 0 y (omega (arith, within)))
+set_both (z ∷ zs) (suc k) x y within = ap (λ (rest : List _). z ∷ rest) (set_both zs k x y (omega (arith, within)))
+
+pub set_remove : {X : Type 0} (xs : List X) (k : ℕ) (x : X) → suc k < length xs
+    → remove (set xs k x) (suc k) ≡ take k xs ++ (x ∷ drop (suc (suc k)) xs)
+set_remove [] k x within = absurd (omega (arith, within))
+set_remove (z ∷ zs) zero x within = refl
+set_remove (z ∷ zs) (suc k) x within = ap (λ (rest : List _). z ∷ rest) (set_remove zs k x (omega (arith, within)))
+
+-- blocks among one, and among two
+pub times_is : (b c : ℕ) (xs : List ℕ) → c ≡ b → times b (c ∷ xs) ≡ 1 + times b xs
+times_is b c xs same = subst (λ (m : ℕ). times m (c ∷ xs) ≡ 1 + times m xs) same (times_same c xs)
+
+pub not_in : (b c : ℕ) (xs : List ℕ) → times b (c ∷ xs) ≡ 0 → (b ≡ c → ⊥) × (times b xs ≡ 0)
+not_in b c xs none = (λ same. absurd (omega (arith, none, times_is b c xs (sym same))), omega (arith, none))
+
+pub for_one : (P : ℕ → Type 0) (c : ℕ) → P c → (b : ℕ) → 1 ≤ times b (c ∷ []) → P b
+for_one P c here b some = same_or_other c b
+    (λ same. subst P same here)
+    (λ other. absurd (omega (arith, some, times_other b c [] other)))
+
+pub for_two : (P : ℕ → Type 0) (c d : ℕ) → P c → P d → (b : ℕ) → 1 ≤ times b (c ∷ d ∷ []) → P b
+for_two P c d here next b some = same_or_other c b
+    (λ same. subst P same here)
+    (λ other. for_one P d next b (omega (arith, some, times_other b c (d ∷ []) other)))
+
+pub two_once : (c d : ℕ) → (c ≡ d → ⊥) → (b : ℕ) → times b (c ∷ d ∷ []) ≤ 1
+two_once c d apart b = grind (arith, nat_tests)
+
+pub two_apart : (c d : ℕ) → ((b : ℕ) → times b (c ∷ d ∷ []) ≤ 1) → c ≡ d → ⊥
+two_apart c d once same = absurd (omega (arith, once d, times_is d c (d ∷ []) same, times_same d []))
+
+-- the k-th of some, and the next two
+pub one_around : (cs : List ℕ) (k c : ℕ) → k < length cs → get_or cs k 0 ≡ c → cs ≡ take k cs ++ ((c ∷ []) ++ drop (suc k) cs)
+one_around cs k c within is = split_at cs k 0 within ∙ ap (λ (m : ℕ). take k cs ++ m ∷ drop (suc k) cs) is
+
+pub two_around : (cs : List ℕ) (k c d : ℕ) → suc k < length cs → get_or cs k 0 ≡ c → get_or cs (suc k) 0 ≡ d
+    → cs ≡ take k cs ++ ((c ∷ d ∷ []) ++ drop (suc (suc k)) cs)
+two_around cs k c d within is next =
+    one_around cs k c (omega (arith, within)) is
+    ∙ ap (λ (rest : List ℕ). take k cs ++ c ∷ rest) (drop-cons cs (suc k) 0 within ∙ ap (λ (m : ℕ). m ∷ drop (suc (suc k)) cs) next)
+
+chosen : (test : Bool) (rest : ℕ) → 1 ≤ (if test then 1 else 0) + rest → (test ≡ true) ⊎ (1 ≤ rest)
+chosen true rest some = inl refl
+chosen false rest some = inr (omega (arith, some))
+
+pub some_free : (b : Blocks) (n : ℕ) → 1 ≤ free_below b n → (k : ℕ) × (1 ≤ k) × (k < n) × (is_free b k ≡ true)
+unfolding free_below
+some_free b zero some = absurd (omega (arith, some))
+some_free b (suc n) some = ⊎_elim
+    (λ (here : (nat_lt 0 n && is_free b n) ≡ true).
+    let parts = and_parts (nat_lt 0 n) (is_free b n) here in (n, omega (arith, ltb-true 0 n parts.0), omega arith, parts.1))
+    (λ (rest : 1 ≤ free_below b n).
+    let found = some_free b n rest in (found.0, found.1, omega (arith, found.2), found.3))
+    (chosen (nat_lt 0 n && is_free b n) (free_below b n) some)
+
+pub same_below : (a b : Blocks) (n : ℕ) → ((k : ℕ) → k < n → is_free b k ≡ is_free a k) → free_below b n ≡ free_below a n
+unfolding free_below
+same_below a b zero same = refl
+same_below a b (suc n) same =
+    let here = same n (omega arith) in
+    let rest = same_below a b n (λ k within. same k (omega (arith, within))) in
+    rw (here, rest) refl
+
+pub same_count : (a b : Blocks) → b.free ≡ a.free → pool_size b ≡ pool_size a → free_count b ≡ free_count a
+same_count a b free pool = ap (free_below b) pool ∙ same_below a b (pool_size a) (λ k within. ap (λ (bits : _). has_bit bits k) free)
+
+less_below : (a b : Blocks) (m n : ℕ) → 1 ≤ m → m < n → is_free a m ≡ true → is_free b m ≡ false
+    → ((k : ℕ) → (k ≡ m → ⊥) → is_free b k ≡ is_free a k) → free_below a n ≡ free_below b n + 1
+unfolding free_below
+less_below a b m zero from within was now same = absurd (omega (arith, within))
+less_below a b m (suc n) from within was now same = same_or_other n m
+    (λ here.
+    let rest = same_below a b n (λ k below. same k (λ is. absurd (omega (arith, below, here, is)))) in
+    let first : is_free a n ≡ true = ap (is_free a) here ∙ was in
+    let second : is_free b n ≡ false = ap (is_free b) here ∙ now in
+    let positive : nat_lt 0 n ≡ true = lt-ltb 0 n (omega (arith, from, here)) in
+    rw (first, second, positive, rest) (omega arith))
+    (λ other.
+    let rest = less_below a b m n from (omega (arith, within, other)) was now same in
+    let here = same n other in
+    rw (here, rest) (omega arith))
+
+pub taken_count : (a z : Blocks) (m : ℕ) → AreBlocks a → 1 ≤ m → m < pool_size a → is_free a m ≡ true → pool_size z ≡ pool_size a
+    → z.free ≡ (with_taken a m).free → free_count a ≡ free_count z + 1
+taken_count a z m all from below was pool free =
+    let room : m < 8 * length a.free = omega (arith, below, all.map_room) in
+    let now = λ (k : ℕ). ap (λ (bits : _). has_bit bits k) free in
+    let less = less_below a z m (pool_size a) from below was (now m ∙ bit_cleared a.free m room) (λ k other. now k ∙ bit_cleared_other a.free m k room other) in
+    less ∙ ap (λ (n : ℕ). free_below z n + 1) (sym pool)
+
+-- where all that was free is free still, as many blocks are free at least
+freed_more : (first before after : Bool) → (before ≡ true → after ≡ true) → (if first && before then 1 else 0) ≤ (if first && after then 1 else 0)
+freed_more false before after stays = omega arith
+freed_more true false after stays = omega arith
+freed_more true true after stays = subst (λ (test : Bool). 1 ≤ (if test then 1 else 0)) (sym (stays refl)) (omega arith)
+
+pub more_free : (a b : Blocks) (n : ℕ) → ((m : ℕ) → is_free a m ≡ true → is_free b m ≡ true) → free_below a n ≤ free_below b n
+unfolding free_below
+more_free a b zero stays = omega arith
+more_free a b (suc n) stays = omega (arith, more_free a b n stays, freed_more (nat_lt 0 n) (is_free a n) (is_free b n) (stays n))
 
 -- one mark more
 marked_by : (k n : ℕ) (marks : List Bool)
@@ -35,25 +155,13 @@ block_writes a n bytes all within = record {
   same = record { site = refl; pool = length-set a.current n bytes; kept = refl; kept_free = refl };
   others = λ m none. block_beside a n m bytes (not_alone m n none);
   free = refl;
-  changed = λ m some. ⊎_elim
-      (λ (same : n ≡ m). subst (λ (i : ℕ). get_or (set a.changed n true) i false ≡ true) same (get_or-set_same a.changed n true false (omega (arith, within, all.marks))))
-      (λ (other : n ≡ m → ⊥). absurd (omega (arith, some, times_other m n [] other)))
-      (cases_eq n m);
+  changed = for_one (λ (i : ℕ). get_or (set a.changed n true) i false ≡ true) n (get_or-set_same a.changed n true false (omega (arith, within, all.marks)));
   marks = record { stay = λ m is. marks_stay a.changed n m is; few = omega (arith, marked_by 0 n a.changed) };
 }
 
 -- a block is written where there is one
 pub writes_if : (a b : Blocks) (next : Option ℕ) (n : ℕ) → next ≡ Some n → Writes a b (n ∷ []) → Writes a b (option_to_list next)
 writes_if a b next n is writes = subst (λ (o : Option ℕ). Writes a b (option_to_list o)) (sym is) writes
-
-pub writes_none : (a : Blocks) → Writes a a []
-writes_none a = record {
-  same = pool_same a;
-  others = λ m none. refl;
-  free = refl;
-  changed = λ m some. absurd (omega (arith, some));
-  marks = record { stay = λ m is. is; few = omega arith };
-}
 
 -- how many aren't marked
 pub unchanged_less : (x y : Bool) → (x ≡ true → y ≡ true) → (if y then 0 else 1) ≤ (if x then 0 else 1)
@@ -69,7 +177,7 @@ unmarked_append : (a : Blocks) (ms ns : List ℕ) → unmarked a (ms ++ ns) ≡ 
 unmarked_append a [] ns = omega arith
 unmarked_append a (m ∷ ms) ns = omega (arith, unmarked_append a ms ns)
 
-unmarked_few : (a : Blocks) (ns : List ℕ) → unmarked a ns ≤ length ns
+pub unmarked_few : (a : Blocks) (ns : List ℕ) → unmarked a ns ≤ length ns
 unmarked_few a [] = omega arith
 unmarked_few a (n ∷ ns) = omega (arith, unchanged_less false (is_changed a n) (λ lie. absurd cc), unmarked_few a ns)
 
@@ -107,13 +215,6 @@ module _ (a b c : Blocks) (ms : List ℕ) (one : Writes a b ms) where
 pub next_few : (next : Option ℕ) → length (option_to_list next) ≤ 1
 next_few None = omega arith
 next_few (Some q) = omega arith
-
--- what is left of the marks where one block is told apart
-pub marks_of : (a b : Blocks) (ns : List ℕ) (n more : ℕ) → Writes a b (ns ++ n ∷ []) → length ns ≤ more → MarksAtMost a b (unchanged a n + more)
-marks_of a b ns n more writes few = record {
-  stay = writes.marks.stay;
-  few = omega (arith, writes.marks.few, unmarked_append a ns (n ∷ []), unmarked_few a ns, few);
-}
 
 -- one block alone
 pub written_only : (a b : Blocks) (n : ℕ) → Writes a b (n ∷ []) → WritesOnly a b n

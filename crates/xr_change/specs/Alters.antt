@@ -1,11 +1,19 @@
 -- A change of what stands under one block of a tree, whatever stands beside the block in its row.
-use Rattle.std.specs.Prelude.{◌≡◌, ℕ, zero, suc, ◌≤◌, true, false, List, [], ◌∷◌, ◌++◌}
+use Rattle.std.specs.Prelude.{◌≡◌, ℕ, zero, suc, ◌≤◌, true, false, List, [], ◌∷◌, ◌++◌, length}
 use Rattle.xr_blocks.specs.Form.{Form}
-use Rattle.xr_blocks.specs.Overlay.{Blocks, block_at, is_free, pool_size}
-use Rattle.xr_blocks.specs.Rows.{AreRowsOf, Held, IsWholeLeaf, IsWholeNode}
+use Rattle.xr_base.specs.declared.geometry.TheConstants.{BLOCKS}
+use Rattle.xr_blocks.specs.Overlay.{AreBlocks, AreWhole, Blocks, block_at, is_free, pool_size}
+use Rattle.xr_blocks.specs.Rows.{AreRowsOf, Held, IsWholeLeaf, IsWholeNode, half}
 use Rattle.xr_blocks.specs.Times.{times}
 use Rattle.xr_blocks.specs.Tree.{IsUsed, blocks_of, site_of, tree_held}
 use Rattle.xr_blocks.specs.TreeBlock.{Place, Site, entries_in, records_in}
+
+-- what is known of any overlay
+pub record AreKnown (b : Blocks) : Type 0 where
+  pub all : AreBlocks b
+  pub whole : AreWhole b.current
+  pub identified : length b.uuid ≡ 16
+  pub small : pool_size b ≤ BLOCKS
 
 -- the rows from one on down are those of a tree, no block stands twice in them, and none is free
 pub record AreRowsIn {X : Type 0} (form : Form X) (b : Blocks) (least level : ℕ) (row : List ℕ) : Type 0 where
@@ -45,3 +53,14 @@ pub record Alters {X : Type 0} (form : Form X) (before after : Blocks) (floor le
   -- what the tree lost is free, and what it didn't take stays free
   pub freed : (m : ℕ) → 1 ≤ times m (blocks_of form before level (n ∷ [])) → times m (blocks_of form after level (n ∷ [])) ≡ 0 → is_free after m ≡ true
   pub spare : (m : ℕ) → is_free before m ≡ true → times m (blocks_of form after level (n ∷ [])) ≡ 0 → is_free after m ≡ true
+
+-- some blocks of a row are taken for others, whatever stands beside them there
+pub record Takes {X : Type 0} (form : Form X) (before after : Blocks) (level : ℕ) (old new : List ℕ) : Type 0 where
+  pub same : IsSamePool before after
+  pub rows : (pre post : List ℕ) → AreRowsIn form before (half form level) level (pre ++ (old ++ post)) → AreRowsIn form after (half form level) level (pre ++ (new ++ post))
+  pub held : (m : ℕ) → is_free before m ≡ false → times m (blocks_of form before level old) ≡ 0
+      → HoldsSame form before after m × (is_free after m ≡ false) × (times m (blocks_of form after level new) ≡ 0)
+  pub bytes : (pre post : List ℕ) → AreRowsIn form before (half form level) level (pre ++ (old ++ post)) → (m : ℕ)
+      → is_free before m ≡ false → times m (blocks_of form before level (pre ++ (old ++ post))) ≡ 0 → block_at after m ≡ block_at before m
+  pub freed : (m : ℕ) → 1 ≤ times m (blocks_of form before level old) → times m (blocks_of form after level new) ≡ 0 → is_free after m ≡ true
+  pub spare : (m : ℕ) → is_free before m ≡ true → times m (blocks_of form after level new) ≡ 0 → is_free after m ≡ true

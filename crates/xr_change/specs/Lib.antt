@@ -1,10 +1,7 @@
 pub mod Alters
-pub mod Items
+pub mod Changes
 pub mod Lowers
-pub mod Rearranges
 pub mod Regroups
-pub mod Rooms
 pub mod Sets
-pub mod Spares
 pub mod Ways
 pub mod Writes

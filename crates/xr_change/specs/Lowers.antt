@@ -1,9 +1,12 @@
--- A tree whose root may be another block, one level lower: its records are the same.
-use Rattle.std.specs.Prelude.{◌≡◌, ℕ, ◌≤◌}
+-- A tree whose root is another block, one level lower or one higher: its records are the same.
+use Rattle.std.specs.Prelude.{◌≡◌, ℕ, ◌+◌, ◌<◌, ◌≤◌, true, [], ◌∷◌}
 use Rattle.xr_blocks.specs.Form.{Form}
 use Rattle.xr_blocks.specs.Frame.{ChangesOnly}
 use Rattle.xr_blocks.specs.Overlay.{Blocks, free_count}
-use Rattle.xr_blocks.specs.Tree.{IsTreeIn, tree_blocks, tree_records}
+use Rattle.xr_blocks.specs.Tree.{IsTreeIn, records_of, tree_blocks, tree_records}
+use Rattle.xr_change.specs.Alters.{AreRowsIn}
+use Rattle.xr_change.specs.Ways.{HasSome, IsInTree, blocks_wanted, full_on_way, item_count, item_most, next_full}
+use Rattle.xr_change.specs.Writes.{MarksAtMost, is_changed}
 
 pub record Lowers {X : Type 0} (form : Form X) (before after : Blocks) (root level root' level' : ℕ) : Type 0 where
   pub tree : IsTreeIn form after root' level'
@@ -11,3 +14,18 @@ pub record Lowers {X : Type 0} (form : Form X) (before after : Blocks) (root lev
   pub frame : ChangesOnly before (tree_blocks form before root level) after (tree_blocks form after root' level')
   pub free : free_count before ≤ free_count after
   pub changed : after.changed ≡ before.changed
+
+-- a node above a full root, which names it alone: a record that is to come into the tree has room there
+pub record Raises {X : Type 0} (form : Form X) (before after : Blocks) (root level top level' : ℕ) (r : X) : Type 0 where
+  pub rows : AreRowsIn form after 1 level' (top ∷ [])
+  pub records : records_of form after level' (top ∷ []) ≡ tree_records form before root level
+  pub frame : ChangesOnly before (tree_blocks form before root level) after (tree_blocks form after top level')
+  pub here : IsInTree form after level' top
+  pub some : HasSome form after level' top
+  pub one : item_count form after level' top ≡ 1
+  pub room : item_count form after level' top < item_most form level'
+  pub next : next_full form after level' top r ≡ 1
+  pub free : full_on_way form after level' top r + 1 ≡ blocks_wanted form before level root r
+  pub count : free_count before ≡ free_count after + 1
+  pub marks : MarksAtMost before after 1
+  pub changed : is_changed after top ≡ true

@@ -1,54 +1,113 @@
--- Some neighbouring children of a node are taken for others that hold the same items: one is split, two share their items
--- anew, or two become one.
-use Rattle.std.specs.Prelude.{◌≡◌, ℕ, zero, suc, ◌<◌, ◌≤◌, true, false, Option, Some, List, ◌∷◌, ◌++◌, length, map}
-use Rattle.std.specs.List.{flat_map, last_or}
+-- The items of a block of any level, records of a leaf or entries of a node, and neighbouring children of a node that are taken for others which
+-- hold the same items: one is split, two share their items anew, or two become one.
+use Rattle.std.specs.Prelude.{◌≡◌, ℕ, zero, suc, ◌<◌, ◌≤◌, true, Option, Some, List, [], ◌∷◌, ◌++◌, length, map, take, drop}
+use Rattle.std.specs.List.{flat_map}
 use Rattle.xr_blocks.specs.Form.{Form}
 use Rattle.xr_blocks.specs.Overlay.{Blocks, block_at, is_free, pool_size}
-use Rattle.xr_blocks.specs.Rows.{AreLinked, Held, half, key_held, named_below}
+use Rattle.xr_blocks.specs.Rows.{AreLinked, half, key_held, named_below}
 use Rattle.xr_blocks.specs.Times.{times}
-use Rattle.xr_blocks.specs.Tree.{site_of, tree_held}
-use Rattle.xr_blocks.specs.TreeBlock.{Entry, Place, entries_in, node_bytes}
-use Rattle.xr_change.specs.Alters.{HoldsSame, IsSamePool, IsWholeAt}
-use Rattle.xr_node.specs.BlockTest.{right_in}
+use Rattle.xr_blocks.specs.Tree.{blocks_of, records_of, site_of, tree_held}
+use Rattle.xr_blocks.specs.TreeBlock.{Entry, Place, Site, count_in, entries_in, node_bytes, records_in, tree_block}
+use Rattle.xr_change.specs.Alters.{Alters, HoldsSame, IsWholeAt, Takes}
+use Rattle.xr_change.specs.Ways.{item_most}
+use Rattle.xr_change.specs.Writes.{Writes, WritesOnly}
+use Rattle.xr_edit.specs.Edit.{IsLeafOf, IsNodeOf}
+use Rattle.xr_node.specs.BlockTest.{HoldsRecords, left_in, place_in, right_in}
 
--- the items of some blocks of a level, one after the other, are those of others
-unfoldable pub HaveSameItems : {X : Type 0} → Held X → Held X → ℕ → List ℕ → List ℕ → Type 0
-HaveSameItems before after zero old new = flat_map after.records new ≡ flat_map before.records old
-HaveSameItems before after (suc level) old new = flat_map after.entries new ≡ flat_map before.entries old
+abbrev pub Item : Type 0 → ℕ → Type 0
+Item X zero = X
+Item X (suc level) = Entry
 
--- the level is that of the children. `old` and `new` stand between the same children.
-pub record Regroups {X : Type 0} (form : Form X) (before after : Blocks) (level n : ℕ) (front old new behind : List ℕ) : Type 0 where
-  pub same : IsSamePool before after
-  pub children : named_below (tree_held form before) n ≡ front ++ (old ++ behind)
-  -- the node
-  pub entries : List Entry
+unfoldable pub items_in : {X : Type 0} → Form X → (level : ℕ) → List ℕ → List (Item X level)
+items_in form zero bytes = records_in form bytes
+items_in form (suc level) bytes = entries_in form bytes
+
+-- a whole block of a level with these items
+unfoldable pub IsBlockOf : {X : Type 0} → Form X → (level : ℕ) → Site → Place → List (Item X level) → List ℕ → Type 0
+IsBlockOf form zero site place items bytes = IsLeafOf form site place items bytes
+IsBlockOf form (suc level) site place items bytes = IsNodeOf form site place items bytes
+
+-- the place that a block names
+abbrev pub place_of : {X : Type 0} → Form X → Blocks → ℕ → ℕ → Place
+place_of form b level n = place_in form n level (block_at b n)
+
+-- a block that gives a key to its parent
+pub record HasKey {X : Type 0} (form : Form X) (level : ℕ) (bytes : List ℕ) : Type 0 where
+  pub tested : level ≡ 0 → HoldsRecords form bytes
+  pub some : 1 ≤ count_in bytes
+  pub few : count_in bytes ≤ item_most form level
+
+-- a whole block of a level, between its neighbours
+pub record IsPlaced {X : Type 0} (form : Form X) (b : Blocks) (level c : ℕ) : Type 0 where
+  pub below : c < pool_size b
+  pub whole : IsWholeAt form (site_of b) (tree_held form b) level (half form level) (place_of form b level c) (block_at b c)
+  pub left_below : (q : ℕ) → left_in form (block_at b c) ≡ Some q → q < pool_size b
+  pub right_below : (q : ℕ) → right_in form (block_at b c) ≡ Some q → q < pool_size b
+  pub right_apart : (q : ℕ) → right_in form (block_at b c) ≡ Some q → q ≡ c → ⊥
+
+-- a block whose left neighbour was one block has another, and is the same beside
+abbrev pub IsRelinked : {X : Type 0} → Form X → Blocks → Blocks → ℕ → ℕ → ℕ → Type 0
+IsRelinked form before after q old new =
+    (place : Place) (count : ℕ) (items : List ℕ) → place.number ≡ q → place.left ≡ Some old
+    → block_at before q ≡ tree_block form (site_of before) place count items
+    → block_at after q ≡ tree_block form (site_of before) (record place { left = Some new }) count items
+
+-- some blocks of a level hold the items that others held, one block after the other
+abbrev pub HaveSameItems : {X : Type 0} → Form X → Blocks → Blocks → ℕ → List ℕ → List ℕ → Type 0
+HaveSameItems form before after level old new =
+    flat_map (λ (m : ℕ). items_in form level (block_at after m)) new ≡ flat_map (λ (m : ℕ). items_in form level (block_at before m)) old
+
+-- where these blocks were linked, those are
+abbrev pub StayLinked : {X : Type 0} → Form X → Blocks → Blocks → ℕ → List ℕ → List ℕ → Type 0
+StayLinked form before after level old new =
+    (left right : Option ℕ) → AreLinked (IsWholeAt form (site_of before) (tree_held form before) level (half form level)) (block_at before) level left old right
+    → AreLinked (IsWholeAt form (site_of before) (tree_held form after) level (half form level)) (block_at after) level left new right
+
+-- the items of some blocks of a level, of which the last is `last`, are dealt to others, of which the last is `last'`
+pub record Deals {X : Type 0} (form : Form X) (a b : Blocks) (level : ℕ) (old new written : List ℕ) (last last' : ℕ) : Type 0 where
+  pub writes : Writes a b written
+  pub linked : StayLinked form a b level old new
+  pub keyed : (m : ℕ) → 1 ≤ times m new → HasKey form level (block_at b m)
+  pub items : HaveSameItems form a b level old new
+  pub next : (q : ℕ) → right_in form (block_at a last) ≡ Some q → IsRelinked form a b q last last'
+
+-- what a node holds for a child
+abbrev pub entry_for : {X : Type 0} → Form X → Blocks → ℕ → ℕ → Entry
+entry_for form b level m = record { key = key_held form (tree_held form b) level m; child = m }
+
+-- a node holds other entries, at whatever place it stands
+pub record HoldsNow {X : Type 0} (form : Form X) (before after : Blocks) (n : ℕ) (entries : List Entry) : Type 0 where
   pub node : (place : Place) → place.number ≡ n → block_at before n ≡ node_bytes form (site_of before) place (entries_in form (block_at before n))
       → block_at after n ≡ node_bytes form (site_of before) place entries
   pub holds : entries_in form (block_at after n) ≡ entries
-  pub names : map (λ (e : Entry). e.child) entries ≡ front ++ (new ++ behind)
-  pub keys : map (λ (e : Entry). e.key) entries ≡ map (key_held form (tree_held form after) level) (front ++ (new ++ behind))
+
+-- a node names these children now, each with the key that it has
+pub record Mends {X : Type 0} (form : Form X) (a b d : Blocks) (level n : ℕ) (children : List ℕ) : Type 0 where
+  pub only : WritesOnly b d n
+  pub entries : List Entry
+  pub now : HoldsNow form a d n entries
+  pub names : map (λ (e : Entry). e.child) entries ≡ children
+  pub keys : map (λ (e : Entry). e.key) entries ≡ map (key_held form (tree_held form b) level) children
   pub few : length entries ≤ form.node_max
-  -- the children that are others now: they begin with the same block
-  pub first : ℕ
-  pub old_rest : List ℕ
-  pub new_rest : List ℕ
-  pub old_is : old ≡ first ∷ old_rest
-  pub new_is : new ≡ first ∷ new_rest
-  pub linked : (left right : Option ℕ) → AreLinked (IsWholeAt form (site_of before) (tree_held form before) level (half form level)) (block_at before) level left old right
-      → AreLinked (IsWholeAt form (site_of before) (tree_held form after) level (half form level)) (block_at after) level left new right
-  pub items : HaveSameItems (tree_held form before) (tree_held form after) level old new
-  -- the block behind them in their level is linked to the last of them
-  pub next : (q last last' : ℕ) → last_or (Some first) old ≡ Some last → last_or (Some first) new ≡ Some last' → right_in form (block_at before last) ≡ Some q
-      → HoldsSame form before after q
-      × ((place : Place) → place.number ≡ q → place.left ≡ Some last
-      → IsWholeAt form (site_of before) (tree_held form before) level (half form level) place (block_at before q)
-      → IsWholeAt form (site_of before) (tree_held form after) level (half form level) (record place { left = Some last' }) (block_at after q))
-  -- nothing else is touched
-  pub others : (m : ℕ) → (m ≡ n → ⊥) → times m old ≡ 0 → times m new ≡ 0
-      → ((last : ℕ) → last_or (Some first) old ≡ Some last → right_in form (block_at before last) ≡ Some m → ⊥) → block_at after m ≡ block_at before m
-  -- blocks that come in were free, and those that leave are
-  pub once : (m : ℕ) → times m new ≤ 1
-  pub taken : (m : ℕ) → 1 ≤ times m new → times m old ≡ 0 → (is_free before m ≡ true) × (1 ≤ m) × (m < pool_size before)
-  pub used : (m : ℕ) → 1 ≤ times m new → is_free after m ≡ false
-  pub freed : (m : ℕ) → 1 ≤ times m old → times m new ≡ 0 → is_free after m ≡ true
-  pub free : (m : ℕ) → times m old ≡ 0 → times m new ≡ 0 → is_free after m ≡ is_free before m
+
+-- the blocks of the rows below one
+abbrev pub blocks_below : {X : Type 0} → Form X → Blocks → ℕ → List ℕ → List ℕ
+blocks_below form b zero row = []
+blocks_below form b (suc level) row = blocks_of form b level (flat_map (named_below (tree_held form b)) row)
+
+-- the level is that of the children. Those from the k-th to the one before the t-th are taken for others, and then the node names these.
+pub record Regroups {X : Type 0} (form : Form X) (before after : Blocks) (level n k t : ℕ) (old new : List ℕ) : Type 0 where
+  pub children : (let cs = named_below (tree_held form before) n in cs ≡ take k cs ++ (old ++ drop t cs))
+  pub between : Blocks
+  pub takes : Takes form before between level old new
+  pub mends : (let cs = named_below (tree_held form before) n in Mends form before between after level n (take k cs ++ (new ++ drop t cs)))
+  -- the same items are in them, and what stands below stays
+  pub items : HaveSameItems form before after level old new
+  pub records : records_of form between level new ≡ records_of form before level old
+  pub below : (m : ℕ) → 1 ≤ times m (blocks_below form before level old) → HoldsSame form before after m
+  pub spare : (m : ℕ) → is_free before m ≡ true → times m new ≡ 0 → is_free after m ≡ true
+
+-- the tree under a block is another one with the same records
+pub record IsSameUnder {X : Type 0} (form : Form X) (before after : Blocks) (floor level n : ℕ) : Type 0 where
+  pub alters : Alters form before after floor level n
+  pub records : records_of form after level (n ∷ []) ≡ records_of form before level (n ∷ [])

@@ -1,5 +1,5 @@
 -- The way from a block of a tree down to the leaf in which a record belongs, and the full blocks on it.
-use Rattle.std.specs.Prelude.{◌≡◌, ℕ, zero, suc, ◌+◌, ◌-◌, ◌<◌, ◌≤◌, ◌==◌, ⊤, Bool, true, if◌then◌else◌, List, [], ◌∷◌, ◌++◌, length, slice_index_or, take, drop}
+use Rattle.std.specs.Prelude.{◌≡◌, ℕ, zero, suc, ◌+◌, ◌-◌, ◌^◌, ◌<◌, ◌≤◌, ◌==◌, ⊤, Bool, true, if◌then◌else◌, List, [], ◌∷◌, ◌++◌, length, slice_index_or, take, drop}
 use Rattle.std.specs.List.{All, AllPairs}
 use Rattle.std.specs.declared.cmp.Ordering.TheVariants.{Less}
 use Rattle.xr_blocks.specs.Form.{Form}
@@ -7,7 +7,7 @@ use Rattle.xr_blocks.specs.Overlay.{Blocks, block_at}
 use Rattle.xr_blocks.specs.Rows.{named_below}
 use Rattle.xr_blocks.specs.Tree.{records_of, tree_held}
 use Rattle.xr_blocks.specs.TreeBlock.{Entry, entries_in, records_in}
-use Rattle.xr_change.specs.Alters.{AreRowsIn}
+use Rattle.xr_change.specs.Alters.{AreKnown, AreRowsIn}
 use Rattle.xr_lookup.specs.Cuts.{entry_is_before}
 use Rattle.xr_lookup.specs.declared.cut.Cut.TheVariants.{Behind}
 
@@ -77,3 +77,12 @@ HasSome form b (suc level) n = 1 ≤ length (entries_in form (block_at b n))
 abbrev pub HasTwo : {X : Type 0} → Form X → Blocks → ℕ → ℕ → Type 0
 HasTwo form b zero n = ⊤
 HasTwo form b (suc level) n = 2 ≤ length (entries_in form (block_at b n))
+
+-- the k-th child of a node of a tree, and what is known of the overlay
+pub record IsKth {X : Type 0} (form : Form X) (b : Blocks) (level n k c : ℕ) : Type 0 where
+  pub known : AreKnown b
+  pub here : IsInTree form b (suc level) n
+  pub within : k < length (entries_in form (block_at b n))
+  pub few : length (entries_in form (block_at b n)) ≤ form.node_max
+  pub small : length (entries_in form (block_at b n)) < 2 ^ 16
+  pub is : c ≡ child_of form b n k

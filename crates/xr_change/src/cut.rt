@@ -1,5 +1,5 @@
 //! Changes of a whole tree that make it no larger: a record less, and a record in the place of another.
-ghost use Rattle.std.specs.Prelude.{◌≡◌, ℕ, ◌+◌, ◌*◌, ◌≤◌, [], ◌∷◌, length};
+ghost use Rattle.std.specs.Prelude.{◌≡◌, ◌+◌, ◌*◌, ◌≤◌, [], ◌∷◌, length};
 ghost use Rattle.std.specs.List.{Contains};
 ghost use Rattle.xr_blocks.specs.Frame.{ChangesOnly};
 ghost use Rattle.xr_blocks.specs.Overlay.{changed_blocks, free_count};
@@ -12,7 +12,7 @@ ghost use Rattle.xr_change.specs.Ways.{HasSome};
 use crate::removal::remove_below;
 use crate::replacement::replace_below;
 use crate::root::Root;
-use crate::way::child_block;
+use crate::way::{child_block, is_known};
 use xr_blocks::{Overlay, Record};
 use xr_lookup::steps::child_count;
 
@@ -23,7 +23,7 @@ fn lower<R: Record>(over: &mut Overlay, root: Root) -> Root
     requires rules { AreRecords R.form (tree_records R.form over.old root.number root.level) }
     ensures { Lowers R.form over.old over.new root.number root.level result.number result.level }
 {
-    over.has_blocks();
+    is_known(over);
     if root.level == 0 {
         return root;
     }
@@ -37,6 +37,7 @@ fn lower<R: Record>(over: &mut Overlay, root: Root) -> Root
 }
 
 /// Cuts a record out of a tree. Gives the root, which is another block where the old one had one child left.
+#[tactic(auto, using(crate::proofs::WholeChanges::root_here))]
 pub fn remove<R: Record>(over: &mut Overlay, root: Root, r: &R) -> Root
     requires tree { IsTreeIn R.form over.old root.number root.level }
     requires held { Contains (tree_records R.form over.old root.number root.level) r.now }
@@ -51,6 +52,7 @@ pub fn remove<R: Record>(over: &mut Overlay, root: Root, r: &R) -> Root
 }
 
 /// Writes a record over another one of a tree, in whose place of the order it stands.
+#[tactic(auto, using(crate::proofs::WholeChanges::root_here))]
 pub fn replace<R: Record>(over: &mut Overlay, root: Root, old: &R, new: &R)
     requires tree { IsTreeIn R.form over.old root.number root.level }
     requires held { Contains (tree_records R.form over.old root.number root.level) old.now }

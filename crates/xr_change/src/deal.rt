@@ -1,12 +1,14 @@
 //! Items of one or two blocks of a level that are dealt anew, with the links of the blocks.
-ghost use Rattle.std.specs.Prelude.{◌≡◌, ℕ, ◌+◌, ◌^◌, ◌<◌, ◌≤◌, Some};
+ghost use Rattle.std.specs.Prelude.{◌≡◌, ℕ, ◌+◌, ◌^◌, ◌<◌, ◌≤◌, [], ◌∷◌, Some};
+ghost use Rattle.std.specs.Option.{option_to_list};
 ghost use Rattle.xr_blocks.specs.Overlay.{block_at, pool_size};
 ghost use Rattle.xr_blocks.specs.Rows.{half};
-ghost use Rattle.xr_change.specs.Items.{IsPlaced, MergesItems, SharesItems, SplitsItems};
+ghost use Rattle.xr_change.specs.Regroups.{Deals, IsPlaced};
 ghost use Rattle.xr_change.specs.Ways.{item_count, item_most};
 ghost use Rattle.xr_node.specs.BlockTest.{left_in, right_in};
 
 use crate::one_block::{copy_of, gather, pool_number, relink};
+use crate::way::is_known;
 use xr_blocks::{Block, Overlay, Record};
 use xr_node::neighbours::{left_of, right_of};
 use xr_node::read::count_of;
@@ -32,9 +34,9 @@ pub(crate) fn split_items<R: Record>(over: &mut Overlay, level: u32, c: u32, m: 
     requires within { m < pool_size over.old }
     requires apart { c ≡ m → ⊥ }
     requires beside { (q : ℕ) → right_in R.form (block_at over.old c) ≡ Some q → q ≡ m → ⊥ }
-    ensures { SplitsItems R.form over.old over.new level c m }
+    ensures { Deals R.form over.old over.new level (c ∷ []) (c ∷ m ∷ []) (c ∷ m ∷ option_to_list (right_in R.form (block_at over.old c))) c m }
 {
-    over.has_blocks();
+    is_known(over);
     let block = copy_of(over, c);
     let count = count_of(&block);
     let (left, right) = neighbours::<R>(&block);
@@ -58,13 +60,14 @@ pub(crate) fn share_items<R: Record>(over: &mut Overlay, level: u32, c: u32, d: 
     requires level { level < 2 ^ 16 }
     requires placed { IsPlaced R.form over.old level c × IsPlaced R.form over.old level d }
     requires apart { c ≡ d → ⊥ }
+    requires beside { (q : ℕ) → right_in R.form (block_at over.old d) ≡ Some q → q ≡ c → ⊥ }
     requires low { (half R.form level ≤ count) × (count ≤ item_most R.form level) }
     requires high { half R.form level + count ≤ item_count R.form over.old level c + item_count R.form over.old level d }
     requires high_most { item_count R.form over.old level c + item_count R.form over.old level d ≤ item_most R.form level + count }
-    ensures shares { SharesItems R.form over.old over.new level c d }
+    ensures shares { Deals R.form over.old over.new level (c ∷ d ∷ []) (c ∷ d ∷ []) (c ∷ d ∷ []) d d }
     ensures count { item_count R.form over.new level c ≡ count }
 {
-    over.has_blocks();
+    is_known(over);
     let first = copy_of(over, c);
     let second = copy_of(over, d);
     let total = count_of(&first) + count_of(&second);
@@ -80,9 +83,9 @@ pub(crate) fn merge_items<R: Record>(over: &mut Overlay, level: u32, c: u32, d: 
     requires placed { IsPlaced R.form over.old level c × IsPlaced R.form over.old level d }
     requires beside { (q : ℕ) → right_in R.form (block_at over.old d) ≡ Some q → q ≡ c → ⊥ }
     requires fits { item_count R.form over.old level c + item_count R.form over.old level d ≤ item_most R.form level }
-    ensures { MergesItems R.form over.old over.new level c d }
+    ensures { Deals R.form over.old over.new level (c ∷ d ∷ []) (c ∷ []) (c ∷ option_to_list (right_in R.form (block_at over.old d))) d c }
 {
-    over.has_blocks();
+    is_known(over);
     let first = copy_of(over, c);
     let second = copy_of(over, d);
     let total = count_of(&first) + count_of(&second);

@@ -1,23 +1,23 @@
 //! A record more in a whole tree, which grows by a level where its root is full.
-ghost use Rattle.std.specs.Prelude.{◌≡◌, ℕ, ◌+◌, ◌*◌, ◌^◌, ◌<◌, ◌≤◌, [], ◌∷◌, List, true, length, take, drop, None};
-ghost use Rattle.xr_blocks.specs.Form.{key_size};
+ghost use Rattle.std.specs.Prelude.{◌≡◌, ◌+◌, ◌*◌, ◌^◌, ◌<◌, ◌≤◌, [], ◌∷◌, length, None};
 ghost use Rattle.xr_blocks.specs.Frame.{ChangesOnly};
 ghost use Rattle.xr_blocks.specs.Overlay.{block_at, changed_blocks, free_count, pool_size};
-ghost use Rattle.xr_blocks.specs.Rows.{half, key_held};
-ghost use Rattle.xr_blocks.specs.Tree.{AreRecords, IsTreeIn, site_of, tree_blocks, tree_held, tree_records};
-ghost use Rattle.xr_blocks.specs.TreeBlock.{Place, Site};
+ghost use Rattle.xr_blocks.specs.Rows.{half};
+ghost use Rattle.xr_blocks.specs.Tree.{AreRecords, IsTreeIn, site_of, tree_blocks, tree_records};
 ghost use Rattle.xr_change.specs.Alters.{AreRowsIn};
-ghost use Rattle.xr_change.specs.Rearranges.{entry_for};
+ghost use Rattle.xr_change.specs.Lowers.{Raises};
+ghost use Rattle.xr_change.specs.Regroups.{entry_for};
 ghost use Rattle.xr_change.specs.Sets.{inserted};
-ghost use Rattle.xr_change.specs.Ways.{HasSome, IsInTree, blocks_wanted, full_on_way, item_count, item_most, next_full};
-ghost use Rattle.xr_change.specs.Writes.{Grows, MarksAtMost, Writes, is_changed, unchanged};
-ghost use Rattle.xr_edit.specs.Edit.{IsHeader, IsNodeOf};
+ghost use Rattle.xr_change.specs.Ways.{blocks_wanted, item_count, item_most};
+ghost use Rattle.xr_change.specs.Writes.{Writes};
+ghost use Rattle.xr_edit.specs.Edit.{IsNodeOf};
 
 use crate::insertion::insert_below;
 use crate::one_block::put_key;
 use crate::rearrange::take_spare;
 use crate::room::is_full;
 use crate::root::Root;
+use crate::way::is_known;
 use xr_blocks::{Overlay, Record};
 use xr_edit::{Header, build_node, put_number};
 use xr_node::key_test::{KEY_ROOM, key_fits};
@@ -34,7 +34,7 @@ fn write_above<R: Record>(over: &mut Overlay, p: u32, root: Root)
     ensures writes { Writes over.old over.new (p ∷ []) }
     ensures node { IsNodeOf R.form (site_of over.old) (record { number = p; level = root.level + 1; left = None; right = None }) (entry_for R.form over.old root.level root.number ∷ []) (block_at over.new p) }
 {
-    over.has_blocks();
+    is_known(over);
     key_fits::<R>();
     let fields = Header::new(over, p, root.level + 1, None, None);
     let mut room = [0; KEY_ROOM];
@@ -52,14 +52,9 @@ fn raise<R: Record>(over: &mut Overlay, root: Root, r: &R) -> Root
     requires full { item_count R.form over.old root.level root.number ≡ item_most R.form root.level }
     requires spare { blocks_wanted R.form over.old root.level root.number r.now ≤ free_count over.old }
     ensures level { result.level ≡ root.level + 1 }
-    ensures grows { Grows R.form over.old over.new root.level root.number result.number }
-    ensures count { free_count over.old ≡ free_count over.new + 1 }
-    ensures free { full_on_way R.form over.new result.level result.number r.now + 1 ≡ blocks_wanted R.form over.old root.level root.number r.now }
-    ensures next { next_full R.form over.new result.level result.number r.now ≡ 1 }
-    ensures marks { MarksAtMost over.old over.new 1 }
-    ensures changed { is_changed over.new result.number ≡ true }
+    ensures raises { Raises R.form over.old over.new root.number root.level result.number result.level r.now }
 {
-    over.has_blocks();
+    is_known(over);
     let number = take_spare(over);
     write_above::<R>(over, number, root);
     Root {
@@ -69,6 +64,7 @@ fn raise<R: Record>(over: &mut Overlay, root: Root, r: &R) -> Root
 }
 
 /// Puts a record into a tree. Gives the root, which is a new block where the old one was full.
+#[tactic(auto, using(crate::proofs::WholeChanges::root_here))]
 pub fn insert<R: Record>(over: &mut Overlay, root: Root, r: &R) -> Root
     requires tree { IsTreeIn R.form over.old root.number root.level }
     requires rules { AreRecords R.form (inserted R.form.order r.now (tree_records R.form over.old root.number root.level)) }

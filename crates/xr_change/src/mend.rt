@@ -1,14 +1,15 @@
 //! Keys of a node are mended once what stands under a child is another tree.
-ghost use Rattle.std.specs.Prelude.{◌≡◌, ℕ, ◌<◌, ◌≤◌, ◌++◌, [], ◌∷◌, List};
-ghost use Rattle.xr_blocks.specs.Overlay.{block_at, pool_size};
-ghost use Rattle.xr_blocks.specs.Rows.{half, key_held};
+ghost use Rattle.std.specs.Prelude.{◌≡◌, [], ◌∷◌, List};
+ghost use Rattle.xr_blocks.specs.Overlay.{block_at};
+ghost use Rattle.xr_blocks.specs.Rows.{key_held};
 ghost use Rattle.xr_blocks.specs.Tree.{tree_held};
-ghost use Rattle.xr_blocks.specs.TreeBlock.{Entry, Place, Site, count_in};
-ghost use Rattle.xr_change.specs.Alters.{AreRowsIn};
+ghost use Rattle.xr_blocks.specs.TreeBlock.{Entry, Place, Site};
+ghost use Rattle.xr_change.specs.Changes.{MayMend};
 ghost use Rattle.xr_change.specs.Writes.{MarksAtMost, WritesOnly, unmarked};
 ghost use Rattle.xr_edit.specs.Edit.{IsNodeOf, with_key};
 
 use crate::one_block::put_key;
+use crate::way::is_known;
 use xr_blocks::{Overlay, Record};
 use xr_edit::set_key;
 use xr_node::key_test::{KEY_ROOM, is_same, key_fits};
@@ -16,17 +17,14 @@ use xr_node::read::key_at;
 
 /// Gives a child of a node the key that its block has now. Nothing is written where it has it already.
 pub(crate) fn mend_key<R: Record>(over: &mut Overlay, n: u32, level: u32, k: usize, c: u32)
-    requires here { n < pool_size over.old }
-    requires child { (pre : List ℕ) × (post : List ℕ) × AreRowsIn R.form over.old (half R.form level) level (pre ++ c ∷ post) }
-    requires within { k < count_in (block_at over.old n) }
-    requires few { count_in (block_at over.old n) ≤ R.form.node_max }
+    requires { MayMend R.form over.old level n k c }
     ensures only { WritesOnly over.old over.new n }
     ensures free { over.new.free ≡ over.old.free }
     ensures marks { MarksAtMost over.old over.new (unmarked over.old (n ∷ [])) }
     ensures node { (site : Site) (place : Place) (entries : List Entry) → IsNodeOf R.form site place entries (block_at over.old n)
         → IsNodeOf R.form site place (with_key k (key_held R.form (tree_held R.form over.old) level c) entries) (block_at over.new n) }
 {
-    over.has_blocks();
+    is_known(over);
     key_fits::<R>();
     let mut room = [0; KEY_ROOM];
     let key = &mut room[..R::LOW + R::HIGH];

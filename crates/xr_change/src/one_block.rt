@@ -1,25 +1,24 @@
 //! What a rearrangement writes of an overlay in one step: one block of some items, a link, or a child's key.
-ghost use Rattle.std.specs.Prelude.{◌≡◌, ℕ, ◌+◌, ◌-◌, ◌*◌, ◌^◌, ◌<◌, ◌≤◌, ◌++◌, [], ◌∷◌, List, Some, length, take, drop};
+ghost use Rattle.std.specs.Prelude.{◌≡◌, ℕ, ◌+◌, ◌-◌, ◌^◌, ◌<◌, ◌≤◌, ◌++◌, [], ◌∷◌, List, Some, length, take, drop};
 ghost use Rattle.std.specs.List.{insert, remove};
 ghost use Rattle.std.specs.Option.{option_to_list};
 ghost use Rattle.xr_blocks.specs.Form.{key_size};
 ghost use Rattle.xr_blocks.specs.Overlay.{block_at, pool_size};
 ghost use Rattle.xr_blocks.specs.Rows.{held_in, key_held};
 ghost use Rattle.xr_blocks.specs.Tree.{site_of, tree_held};
-ghost use Rattle.xr_blocks.specs.TreeBlock.{Entry, Place, Site, count_in, entries_in};
-ghost use Rattle.xr_change.specs.Items.{HasKey, IsBlockOf, Item};
-ghost use Rattle.xr_change.specs.Rearranges.{IsRelinked, entry_for};
-ghost use Rattle.xr_change.specs.Ways.{child_of, item_most};
+ghost use Rattle.xr_blocks.specs.TreeBlock.{Entry, Place, Site, count_in};
+ghost use Rattle.xr_change.specs.Regroups.{HasKey, IsBlockOf, IsRelinked, Item, entry_for};
+ghost use Rattle.xr_change.specs.Ways.{item_most};
 ghost use Rattle.xr_change.specs.Writes.{Writes};
 ghost use Rattle.xr_edit.specs.Edit.{IsHeader, IsNodeOf, with_key};
 
+use crate::way::is_known;
 use xr_blocks::{Block, Overlay, Record};
 use xr_edit::{
     Header, cut_entry, gather_leaf, gather_node, put_entry, put_key_of_leaf, put_key_of_node,
     set_key, set_left,
 };
 use xr_node::key_test::{KEY_ROOM, key_fits};
-use xr_node::read::child_at;
 
 /// A copy of a block.
 pub(crate) fn copy_of(over: &Overlay, n: u32) -> Block
@@ -38,17 +37,6 @@ pub(crate) fn pool_number(near: Option<u64>) -> Option<u32>
         Some(n) => Some(n as u32),
         None => None,
     }
-}
-
-/// The block of a child.
-pub(crate) fn child_block<R: Record>(over: &Overlay, n: u32, k: usize) -> u32
-    requires here { n < pool_size over.now }
-    requires within { k < length (entries_in R.form (block_at over.now n)) }
-    requires few { length (entries_in R.form (block_at over.now n)) ≤ R.form.node_max }
-    requires small { child_of R.form over.now n k < 2 ^ 32 }
-    ensures { result ≡ child_of R.form over.now n k }
-{
-    child_at::<R>(over.block(n), k) as u32
 }
 
 /// Writes a block of the items from a place to another of two blocks.
@@ -102,7 +90,7 @@ pub(crate) fn gather<R: Record>(
         → IsBlockOf R.form level (site_of over.old) (record { number = n; level = level; left = left; right = right })
         (take (to - from) (drop from (xs ++ ys))) (block_at over.new n) }
 {
-    over.has_blocks();
+    is_known(over);
     let fields = Header::new(over, n, level, left, right);
     put_items::<R>(over.block_mut(n), &fields, level, first, second, from, to);
 }
@@ -113,7 +101,7 @@ pub(crate) fn relink<R: Record>(over: &mut Overlay, next: Option<u32>, left: u32
     ensures writes { Writes over.old over.new (option_to_list next) }
     ensures relinked { (q old : ℕ) → next ≡ Some q → IsRelinked R.form over.old over.new q old left }
 {
-    over.has_blocks();
+    is_known(over);
     if let Some(n) = next {
         set_left::<R>(over.block_mut(n), Some(left));
     }
@@ -142,7 +130,7 @@ pub(crate) fn set_child_key<R: Record>(over: &mut Overlay, n: u32, level: u32, k
     ensures node { (site : Site) (place : Place) (entries : List Entry) → IsNodeOf R.form site place entries (block_at over.old n)
         → IsNodeOf R.form site place (with_key k (key_held R.form (tree_held R.form over.old) level c) entries) (block_at over.new n) }
 {
-    over.has_blocks();
+    is_known(over);
     key_fits::<R>();
     let mut room = [0; KEY_ROOM];
     let key = &mut room[..R::LOW + R::HIGH];
@@ -160,7 +148,7 @@ pub(crate) fn put_child<R: Record>(over: &mut Overlay, n: u32, level: u32, k: us
     ensures node { (site : Site) (place : Place) (entries : List Entry) → IsNodeOf R.form site place entries (block_at over.old n)
         → IsNodeOf R.form site place (insert entries k (entry_for R.form over.old level m)) (block_at over.new n) }
 {
-    over.has_blocks();
+    is_known(over);
     key_fits::<R>();
     let mut room = [0; KEY_ROOM];
     let key = &mut room[..R::LOW + R::HIGH];
@@ -177,6 +165,6 @@ pub(crate) fn cut_child<R: Record>(over: &mut Overlay, n: u32, k: usize)
     ensures node { (site : Site) (place : Place) (entries : List Entry) → IsNodeOf R.form site place entries (block_at over.old n)
         → IsNodeOf R.form site place (remove entries k) (block_at over.new n) }
 {
-    over.has_blocks();
+    is_known(over);
     cut_entry::<R>(over.block_mut(n), k);
 }

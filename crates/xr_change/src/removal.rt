@@ -1,19 +1,15 @@
 //! A record less in a tree: on the way down blocks that are only half full are given items of a neighbour or joined with
 //! it, and on the way back keys are mended.
-ghost use Rattle.std.specs.Prelude.{◌≡◌, ℕ, ◌+◌, ◌*◌, ◌≤◌, [], ◌∷◌};
+ghost use Rattle.std.specs.Prelude.{◌≡◌, ◌+◌, ◌≤◌, [], ◌∷◌};
 ghost use Rattle.std.specs.List.{Contains};
-ghost use Rattle.xr_blocks.specs.Overlay.{free_count};
 ghost use Rattle.xr_blocks.specs.Tree.{records_of};
-ghost use Rattle.xr_change.specs.Alters.{Alters};
-ghost use Rattle.xr_change.specs.Sets.{removed};
-ghost use Rattle.xr_change.specs.Spares.{HasSpare};
+ghost use Rattle.xr_change.specs.Changes.{HasSpare, Removes};
 ghost use Rattle.xr_change.specs.Ways.{HasTwo, IsInTree, child_of, item_count};
-ghost use Rattle.xr_change.specs.Writes.{MarksAtMost, unchanged};
 
 use crate::leaves::remove_from_leaf;
 use crate::mend::mend_key;
 use crate::spare::spare_way;
-use crate::way::{Step, child_block};
+use crate::way::{Step, child_block, is_known};
 use xr_blocks::{Overlay, Record};
 
 /// The child of a node under which a record stands, with an item more than it needs. The level is that of the children.
@@ -37,10 +33,7 @@ pub(crate) fn remove_below<R: Record>(over: &mut Overlay, n: u32, level: u32, r:
     requires here { IsInTree R.form over.old level n }
     requires two { HasTwo R.form over.old level n }
     requires held { Contains (records_of R.form over.old level (n ∷ [])) r.now }
-    ensures alters { (floor : ℕ) → floor + 1 ≤ item_count R.form over.old level n → Alters R.form over.old over.new floor level n }
-    ensures set { records_of R.form over.new level (n ∷ []) ≡ removed R.form.order r.now (records_of R.form over.old level (n ∷ [])) }
-    ensures free { free_count over.old ≤ free_count over.new }
-    ensures marks { MarksAtMost over.old over.new (unchanged over.old n + 3 * level) }
+    ensures { Removes R.form over.old over.new level n r.now }
 {
     if level == 0 {
         remove_from_leaf(over, n, r);
@@ -48,7 +41,7 @@ pub(crate) fn remove_below<R: Record>(over: &mut Overlay, n: u32, level: u32, r:
     }
     let below = level - 1;
     let step = step_down(over, n, below, r);
-    over.has_blocks();
+    is_known(over);
     remove_below(over, step.child, below, r);
     mend_key::<R>(over, n, below, step.place, step.child);
 }

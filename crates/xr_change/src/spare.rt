@@ -1,13 +1,15 @@
 //! The way of a removal: a child that is only half full is given items of a neighbour, or joined with it.
-ghost use Rattle.std.specs.Prelude.{◌≡◌, ℕ, ◌+◌, ◌^◌, ◌<◌, ◌≤◌, [], ◌∷◌};
+ghost use Rattle.std.specs.Prelude.{◌≡◌, ◌+◌, ◌^◌, ◌<◌, ◌≤◌, [], ◌∷◌, length};
 ghost use Rattle.std.specs.List.{Contains};
+ghost use Rattle.xr_blocks.specs.Overlay.{block_at};
 ghost use Rattle.xr_blocks.specs.Rows.{half};
 ghost use Rattle.xr_blocks.specs.Tree.{records_of};
-ghost use Rattle.xr_change.specs.Spares.{HasSpare};
+ghost use Rattle.xr_blocks.specs.TreeBlock.{entries_in};
+ghost use Rattle.xr_change.specs.Changes.{HasSpare};
 ghost use Rattle.xr_change.specs.Ways.{IsInTree, child_of, item_count, item_most};
 
 use crate::rearrange::{merge_children, share_children};
-use crate::way::{child_block, way_of};
+use crate::way::{child_block, is_known, way_of};
 use xr_blocks::{Overlay, Record};
 use xr_node::read::count_of;
 
@@ -25,12 +27,11 @@ fn most_of<R: Record>(level: u32) -> usize
 /// How many items a child of a node has.
 fn child_count<R: Record>(over: &Overlay, n: u32, level: u32, k: usize) -> usize
     requires here { IsInTree R.form over.now (level + 1) n }
-    requires within { k < item_count R.form over.now (level + 1) n }
+    requires within { k < length (entries_in R.form (block_at over.now n)) }
     ensures count { result ≡ item_count R.form over.now level (child_of R.form over.now n k) }
     ensures most { result ≤ item_most R.form level }
     ensures small { result < 2 ^ 16 }
 {
-    over.has_blocks();
     let child = child_block::<R>(over, n, level, k);
     count_of(over.block(child))
 }
@@ -38,12 +39,12 @@ fn child_count<R: Record>(over: &Overlay, n: u32, level: u32, k: usize) -> usize
 /// The place of a child that is half full, once it was given items of a neighbour or joined with it.
 fn fill_child<R: Record>(over: &mut Overlay, n: u32, level: u32, k: usize) -> usize
     requires here { IsInTree R.form over.old (level + 1) n }
-    requires two { 2 ≤ item_count R.form over.old (level + 1) n }
-    requires within { k < item_count R.form over.old (level + 1) n }
+    requires two { 2 ≤ length (entries_in R.form (block_at over.old n)) }
+    requires within { k < length (entries_in R.form (block_at over.old n)) }
     requires low { item_count R.form over.old level (child_of R.form over.old n k) ≤ half R.form level }
     ensures { (r : R) → Contains (records_of R.form over.old level (child_of R.form over.old n k ∷ [])) r → HasSpare R.form over.old over.new level n r result }
 {
-    over.has_blocks();
+    is_known(over);
     let left = k.saturating_sub(1);
     let all = child_count::<R>(over, n, level, left) + child_count::<R>(over, n, level, left + 1);
     if all <= most_of::<R>(level) {

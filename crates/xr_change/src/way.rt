@@ -1,12 +1,13 @@
 //! The way down to the leaf in which a record belongs.
-ghost use Rattle.std.specs.Prelude.{◌≡◌, ℕ, ◌+◌, ◌<◌, ◌≤◌, ◌⊎◌, List, length, slice_index_or, take, drop, true, false};
+ghost use Rattle.std.specs.Prelude.{◌≡◌, ◌+◌, ◌<◌, ◌≤◌, ◌⊎◌, length, slice_index_or, take, drop, true, false};
 ghost use Rattle.std.specs.List.{All};
 ghost use Rattle.std.specs.declared.cmp.Ordering.TheVariants.{Less};
 ghost use Rattle.xr_blocks.specs.Overlay.{block_at};
 ghost use Rattle.xr_blocks.specs.Rows.{named_below};
 ghost use Rattle.xr_blocks.specs.Tree.{records_of, tree_held};
 ghost use Rattle.xr_blocks.specs.TreeBlock.{Entry, entries_in};
-ghost use Rattle.xr_change.specs.Ways.{IsInTree, IsWay, child_of, item_count, way_place};
+ghost use Rattle.xr_change.specs.Alters.{AreKnown};
+ghost use Rattle.xr_change.specs.Ways.{IsInTree, IsKth, IsWay, item_count, way_place};
 ghost use Rattle.xr_lookup.specs.Cuts.{entry_is_before};
 ghost use Rattle.xr_lookup.specs.declared.cut.Cut.TheVariants.{Behind};
 
@@ -22,7 +23,15 @@ pub(crate) struct Step {
     pub child: u32,
 }
 
+/// Does nothing: what is known of any overlay, for a proof.
+pub(crate) fn is_known(over: &Overlay)
+    ensures { AreKnown over.now }
+{
+    over.has_blocks();
+}
+
 /// The child of a node under which a record belongs. The level is that of the children.
+#[tactic(auto, using(crate::proofs::InTree::is_under))]
 pub(crate) fn way_of<R: Record>(over: &Overlay, n: u32, level: u32, r: &R) -> usize
     requires here { IsInTree R.form over.now (level + 1) n }
     requires some { 1 ≤ item_count R.form over.now (level + 1) n }
@@ -52,11 +61,13 @@ pub(crate) fn half_of<R: Record>(over: &Overlay, n: u32, level: u32, k: usize, r
 }
 
 /// The block of a child of a node.
+#[tactic(auto, using(crate::proofs::InTree::is_under))]
 pub(crate) fn child_block<R: Record>(over: &Overlay, n: u32, level: u32, k: usize) -> u32
     requires here { IsInTree R.form over.now (level + 1) n }
     requires within { k < length (entries_in R.form (block_at over.now n)) }
-    ensures child { result ≡ child_of R.form over.now n k }
+    ensures kth { IsKth R.form over.now level n k result }
     ensures here { IsInTree R.form over.now level result }
 {
+    is_known(over);
     child_of::<R>(over, n, level, k)
 }

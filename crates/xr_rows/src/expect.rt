@@ -1,44 +1,7 @@
 //! Rows of `expect`: what a script prints, over a source and a sink in memory.
 
-use std::alloc::AllocError;
+use crate::tests::{Input, gives, no_disk, script};
 use std::test::Fail;
-use std::thread::Threads;
-use xr_cmd::xreflink;
-use xr_disk::{FileDisk, MemSink, MemSource};
-
-/// What a run ended with, and what it wrote.
-#[derive(Drop)]
-pub(crate) struct Outcome {
-    pub(crate) status: u8,
-    pub(crate) written: Vec<u8>,
-}
-
-/// A disk over no file.
-pub(crate) fn no_disk(rt: &HostRuntime) -> Result<FileDisk<HostRuntime>, AllocError> {
-    Ok(FileDisk::new(rt.clone()?, String::new(rt.alloc()), false))
-}
-
-/// Runs a command that makes no call on its disk.
-pub(crate) fn outcome_of<R: Threads + Sync + AllocGlobal>(
-    rt: &R,
-    disk: FileDisk<HostRuntime>,
-    words: &[&str],
-    script: &[u8],
-    source_fails: &[u64],
-    sink_fails: &[u64],
-) -> Result<Outcome, AllocError> {
-    let alloc = rt.alloc();
-    let mut source = MemSource::new(
-        Vec::from_slice(alloc, script)?,
-        Vec::from_slice(alloc, source_fails)?,
-    );
-    let mut sink = MemSink::new(alloc, 1 << 20, Vec::from_slice(alloc, sink_fails)?)?;
-    let ended = xreflink(rt, alloc, words, &mut source, &mut sink, disk);
-    Ok(Outcome {
-        status: ended.status,
-        written: Vec::from_slice(alloc, sink.bytes())?,
-    })
-}
 
 pub(crate) const ALL_FREE: &str = "free 512 1536\nfree 2560 1536\nfree 4608 1536\nfree 6656 1536\n";
 
@@ -114,10 +77,15 @@ const ROWS: [(&str, &str, &str); 14] = [
 
 #[test]
 fn prints_the_records(rt: HostRuntime) -> Result<(), Fail> {
-    for (name, script, wanted) in ROWS {
-        let outcome = outcome_of(&rt, no_disk(&rt)?, &["expect"], script.as_bytes(), &[], &[])?;
-        assert_eq!(rt; outcome.status, 0, "{name}");
-        assert_eq!(rt; outcome.written.as_slice(), wanted.as_bytes(), "{name}");
+    for (name, text, wanted) in ROWS {
+        gives(
+            &rt,
+            &[name],
+            no_disk(&rt)?,
+            &["expect"],
+            script(text),
+            (0, wanted),
+        )?;
     }
     Ok(())
 }
@@ -149,10 +117,15 @@ const BAD_SCRIPTS: [(&str, &str); 21] = [
 
 #[test]
 fn names_the_first_bad_line(rt: HostRuntime) -> Result<(), Fail> {
-    for (script, wanted) in BAD_SCRIPTS {
-        let outcome = outcome_of(&rt, no_disk(&rt)?, &["expect"], script.as_bytes(), &[], &[])?;
-        assert_eq!(rt; outcome.status, 3, "{script:?}");
-        assert_eq!(rt; outcome.written.as_slice(), wanted.as_bytes(), "{script:?}");
+    for (text, wanted) in BAD_SCRIPTS {
+        gives(
+            &rt,
+            &[text],
+            no_disk(&rt)?,
+            &["expect"],
+            script(text),
+            (3, wanted),
+        )?;
     }
     Ok(())
 }
@@ -170,24 +143,12 @@ const FAULTS: [(&[&str], &[u64], &[u64], u8, &str); 6] = [
 #[test]
 fn ends_with_the_faults_of_the_outside(rt: HostRuntime) -> Result<(), Fail> {
     for (words, source_fails, sink_fails, status, wanted) in FAULTS {
-        let outcome = outcome_of(
-            &rt,
-            no_disk(&rt)?,
-            words,
-            b"remap 0 0 1 512\n",
+        let input = Input {
+            script: "remap 0 0 1 512\n",
             source_fails,
             sink_fails,
-        )?;
-        assert_eq!(rt;
-            outcome.status,
-            status,
-            "{words:?} {source_fails:?} {sink_fails:?}"
-        );
-        assert_eq!(rt;
-            outcome.written.as_slice(),
-            wanted.as_bytes(),
-            "{words:?} {source_fails:?} {sink_fails:?}"
-        );
+        };
+        gives(&rt, words, no_disk(&rt)?, words, input, (status, wanted))?;
     }
     Ok(())
 }

@@ -1,14 +1,12 @@
 //! Rows of `mkfs` and `show`, over a disk in memory and over a file.
 
-use crate::expect::{ALL_FREE, no_disk, outcome_of};
-use std::alloc::{AllocError, Global};
+use crate::expect::ALL_FREE;
+use crate::tests::{blank, gives, leaves, no_disk, script};
+use std::alloc::AllocError;
+use std::process::Abort;
 use std::test::Fail;
 use std::{env, fs, process};
-use xr_cmd::xreflink;
-use xr_disk::{Call, Disk, FileDisk, MemDisk, MemSink, MemSource};
-
-/// Bytes of an image.
-pub(crate) const IMAGE_BYTES: usize = 36_732_928;
+use xr_disk::{Call, Disk, FileDisk, MemDisk};
 
 /// Calls of `mkfs`: a write a block and one more, and three syncs.
 const MKFS_CALLS: u32 = 8972;
@@ -18,15 +16,9 @@ pub(crate) const UUID: &str = "00000000-0000-4000-8000-000000000001";
 /// What is printed of the log of a fresh image.
 const FRESH_LOG: &str = "record 1:0 1:0 20 1\nunmount\npending 0\n";
 
-fn no_script(alloc: Global) -> MemSource {
-    MemSource::new(Vec::new(alloc), Vec::new(alloc))
-}
-
 #[test]
 fn formats_and_shows(rt: HostRuntime) -> Result<(), Fail> {
-    let alloc = rt.alloc();
-    let image = vec![in alloc; 0; IMAGE_BYTES]?;
-    let mut disk = MemDisk::new(alloc, image, Vec::new(alloc), None, 40_000, 40_000_000)?;
+    let mut disk = blank(rt.alloc(), &[], None, 40_000, 40_000_000)?;
     for (words, wanted) in [
         (
             ["mkfs", "IMG", UUID],
@@ -36,62 +28,21 @@ fn formats_and_shows(rt: HostRuntime) -> Result<(), Fail> {
         (["show", "IMG", "free"], ALL_FREE),
         (["show", "IMG", "log"], FRESH_LOG),
     ] {
-        let mut out = MemSink::new(alloc, 1 << 10, Vec::new(alloc))?;
-        let ended = xreflink(
-            &rt,
-            alloc,
-            words.as_slice(),
-            &mut no_script(alloc),
-            &mut out,
-            disk,
-        );
-        assert_eq!(rt; ended.status, 0, "{words:?}");
-        assert_eq!(rt; out.bytes(), wanted.as_bytes(), "{words:?}");
-        disk = ended.disk;
+        disk = leaves(&rt, disk, &words, (0, wanted))?;
     }
     // A byte in a block that is to hold zeros.
     assert_eq!(rt; disk.write(600 * 8 + 7, &[1; 512]), Ok(()));
-    let mut out = MemSink::new(alloc, 1 << 10, Vec::new(alloc))?;
-    let ended = xreflink(
-        &rt,
-        alloc,
-        &["show", "IMG", "free"],
-        &mut no_script(alloc),
-        &mut out,
-        disk,
-    );
-    assert_eq!(rt; ended.status, 7);
-    assert_eq!(rt; out.bytes(), b"foreign 600 12\n".as_slice());
+    leaves(&rt, disk, &["show", "IMG", "free"], (7, "foreign 600 12\n"))?;
     Ok(())
 }
 
 #[test]
 fn mkfs_ends_where_the_disk_stops(rt: HostRuntime) -> Result<(), Fail> {
-    let alloc = rt.alloc();
     for sixty_fourth in 0..MKFS_CALLS / 64 + 1 {
         let stop = u64::from(sixty_fourth * 64 + 1);
-        let image = vec![in alloc; 0; IMAGE_BYTES]?;
-        let disk = MemDisk::new(
-            alloc,
-            image,
-            Vec::new(alloc),
-            Some(stop),
-            MKFS_CALLS,
-            37_000_000,
-        )?;
-        let mut out = MemSink::new(alloc, 1 << 10, Vec::new(alloc))?;
-        let ended = xreflink(
-            &rt,
-            alloc,
-            &["mkfs", "IMG", UUID],
-            &mut no_script(alloc),
-            &mut out,
-            disk,
-        );
-        assert_eq!(rt; ended.status, 6, "{stop}");
-        assert_eq!(rt; out.bytes(), b"disk\n".as_slice(), "{stop}");
-        assert_eq!(rt; ended.disk.moment(), stop);
-        assert_eq!(rt; ended.disk.faults(), 1, "{stop}");
+        let disk = blank(rt.alloc(), &[], Some(stop), MKFS_CALLS, 37_000_000)?;
+        let disk = leaves(&rt, disk, &["mkfs", "IMG", UUID], (6, "disk\n"))?;
+        assert_eq!(rt; (disk.moment(), disk.faults()), (stop, 1));
     }
     Ok(())
 }
@@ -133,52 +84,60 @@ const WORDS: [(&[&str], u8, &str); 18] = [
 #[test]
 fn takes_the_words_of_its_table(rt: HostRuntime) -> Result<(), Fail> {
     for (words, status, wanted) in WORDS {
-        let outcome = outcome_of(&rt, no_disk(&rt)?, words, b"", &[], &[])?;
-        assert_eq!(rt; outcome.status, status, "{words:?}");
-        assert_eq!(rt; outcome.written.as_slice(), wanted.as_bytes(), "{words:?}");
+        gives(
+            &rt,
+            words,
+            no_disk(&rt)?,
+            words,
+            script(""),
+            (status, wanted),
+        )?;
     }
     Ok(())
 }
 
-#[test]
-fn keeps_calls_in_memory(rt: HostRuntime) -> Result<(), Fail> {
-    let alloc = rt.alloc();
-    let image = vec![in alloc; 0; IMAGE_BYTES]?;
-    let fails = Vec::from_slice(alloc, &[4])?;
-    let mut disk = MemDisk::new(alloc, image, fails, Some(6), 5, 1024)?;
+/// Calls on a disk whose 4th call fails, and which stops after the 6th.
+fn call(rt: &impl Abort, disk: &mut MemDisk) {
     let mut sector = [9u8; 512];
-    assert_eq!(rt; disk.write(3, &[1; 512]), Ok(()));
-    assert_eq!(rt; disk.read(3, &mut sector), Ok(()));
+    assert!(rt; disk.write(3, &[1; 512]).is_ok() && disk.read(3, &mut sector).is_ok());
     assert_eq!(rt; &sector, &[1; 512]);
-    assert_eq!(rt; disk.sync(), Ok(()));
+    assert!(rt; disk.sync().is_ok());
+}
+
+fn call_more(rt: &impl Abort, disk: &mut MemDisk) {
     assert!(rt; disk.write(3, &[2; 512]).is_err());
     assert!(rt; disk.write(3, &[2; 1024]).is_err());
     assert!(rt; disk.write(3, &[3; 512]).is_err());
     assert!(rt; disk.sync().is_err());
+}
+
+/// The calls that are done, but for those that fail.
+const DONE: [Call; 4] = [
+    Call::Write {
+        number: 1,
+        at: 3,
+        from: 0,
+        len: 512,
+    },
+    Call::Read { number: 2, at: 3 },
+    Call::Sync { number: 3 },
+    Call::Write {
+        number: 6,
+        at: 3,
+        from: 512,
+        len: 512,
+    },
+];
+
+#[test]
+fn keeps_calls_in_memory(rt: HostRuntime) -> Result<(), Fail> {
+    let mut disk = blank(rt.alloc(), &[4], Some(6), 5, 1024)?;
+    call(&rt, &mut disk);
+    call_more(&rt, &mut disk);
     assert_eq!(rt; (disk.moment(), disk.faults()), (7, 4));
-    assert_eq!(rt;
-        disk.done.as_slice(),
-        [
-            Call::Write {
-                number: 1,
-                at: 3,
-                from: 0,
-                len: 512
-            },
-            Call::Read { number: 2, at: 3 },
-            Call::Sync { number: 3 },
-            Call::Write {
-                number: 6,
-                at: 3,
-                from: 512,
-                len: 512
-            },
-        ]
-        .as_slice()
-    );
-    assert_eq!(rt; disk.image.get(1536).copied(), Some(1));
-    assert_eq!(rt; disk.synced.get(1536).copied(), Some(1));
-    assert_eq!(rt; disk.bytes.get(1023).copied(), Some(3));
+    assert_eq!(rt; disk.done.as_slice(), DONE.as_slice());
+    assert!(rt; disk.image.get(1536) == Some(&1) && disk.synced.get(1536) == Some(&1));
+    assert!(rt; disk.bytes.get(1023) == Some(&3));
     Ok(())
 }
 
@@ -190,6 +149,13 @@ fn file_disk(
     Ok(FileDisk::new(rt.clone()?, String::from_str(rt.alloc(), path)?, create))
 }
 
+/// Each byte of a sector is this one.
+fn reads(rt: &impl Abort, disk: &mut FileDisk<HostRuntime>, at: u32, byte: u8) {
+    let mut sector = [9; 512];
+    assert!(rt; at < 71_744 && disk.read(at, &mut sector).is_ok());
+    assert_eq!(rt; sector, [byte; 512]);
+}
+
 #[test]
 fn reads_and_writes_a_file(rt: HostRuntime) -> Result<(), Fail> {
     let folder = env::temp_dir(&rt)?;
@@ -198,29 +164,21 @@ fn reads_and_writes_a_file(rt: HostRuntime) -> Result<(), Fail> {
         folder.display(),
         process::id(rt.process())
     )?;
-    let mut sector = [9u8; 512];
     let mut missing = file_disk(&rt, path.as_str(), false)?;
-    assert!(rt; missing.read(0, &mut sector).is_err());
+    assert!(rt; missing.read(0, &mut [9u8; 512]).is_err());
     assert_eq!(rt; (missing.moment(), missing.faults()), (1, 1));
 
     let mut disk = file_disk(&rt, path.as_str(), true)?;
-    assert_eq!(rt; disk.write(2, &[7; 1024]), Ok(()));
-    assert_eq!(rt; disk.sync(), Ok(()));
-    assert_eq!(rt; disk.read(3, &mut sector), Ok(()));
-    assert_eq!(rt; &sector, &[7; 512]);
+    assert!(rt; disk.write(2, &[7; 1024]).is_ok() && disk.sync().is_ok());
+    reads(&rt, &mut disk, 3, 7);
     // Before what was written, and past the end of the file.
-    assert_eq!(rt; disk.read(1, &mut sector), Ok(()));
-    assert_eq!(rt; &sector, &[0; 512]);
-    sector = [9; 512];
-    assert_eq!(rt; disk.read(71_743, &mut sector), Ok(()));
-    assert_eq!(rt; &sector, &[0; 512]);
+    reads(&rt, &mut disk, 1, 0);
+    reads(&rt, &mut disk, 71_743, 0);
     assert_eq!(rt; (disk.moment(), disk.faults()), (5, 0));
 
     // The superblock of so short a file is zeros.
     let words = ["show", path.as_str(), "log"];
-    let outcome = outcome_of(&rt, disk, &words, b"", &[], &[])?;
-    assert_eq!(rt; outcome.status, 7);
-    assert_eq!(rt; outcome.written.as_slice(), b"foreign 0 12\n".as_slice());
+    gives(&rt, &words, disk, &words, script(""), (7, "foreign 0 12\n"))?;
     fs::remove_file(&rt, path.as_str())?;
     Ok(())
 }

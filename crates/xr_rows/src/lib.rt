@@ -10,4 +10,6 @@ mod image;
 #[cfg(test)]
 mod log;
 #[cfg(test)]
+mod tests;
+#[cfg(test)]
 mod trees;

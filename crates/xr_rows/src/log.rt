@@ -2,14 +2,15 @@
 ghost use Rattle.std.specs.Prelude.{◌≡◌, length};
 ghost use Rattle.xr_record.specs.Record.{IsGoodHead};
 
-use crate::image::{IMAGE_BYTES, UUID};
+use crate::image::UUID;
+use crate::tests::{blank, leaves};
 use std::alloc::{AllocError, Global};
 use std::process::Abort;
 use std::test::Fail;
 use uuid::Uuid;
 use xr_base::geometry::{BLOCK_BYTES, SECTOR_BYTES};
-use xr_cmd::{mkfs, xreflink};
-use xr_disk::{Disk, MemDisk, MemSink, MemSource};
+use xr_cmd::mkfs;
+use xr_disk::{Disk, MemDisk};
 use xr_headers::layout::CORE_BYTES;
 use xr_items::layout::LONGEST_REGION;
 use xr_items::{Item, put, take};
@@ -168,16 +169,11 @@ fn write_record(
 #[test]
 fn shows_an_item_of_each_kind(rt: HostRuntime) -> Result<(), Fail> {
     let alloc = rt.alloc();
-    let image = vec![in alloc; 0; IMAGE_BYTES]?;
-    let mut disk = MemDisk::new(alloc, image, Vec::new(alloc), None, 40_000, 40_000_000)?;
+    let mut disk = blank(alloc, &[], None, 40_000, 40_000_000)?;
     let uuid = Uuid::parse_str(UUID)?;
-    assert_eq!(rt; mkfs(&mut disk, &uuid, 1), Ok(()));
+    assert!(rt; mkfs(&mut disk, &uuid, 1).is_ok());
     write_record(&rt, alloc, &mut disk, uuid)?;
-    let mut out = MemSink::new(alloc, 1 << 10, Vec::new(alloc))?;
-    let words = ["show", "IMG", "log"];
-    let mut none = MemSource::new(Vec::new(alloc), Vec::new(alloc));
-    let ended = xreflink(&rt, alloc, &words, &mut none, &mut out, disk);
-    assert_eq!(rt; ended.status, 0);
-    assert_eq!(rt; out.bytes(), printed(alloc)?.as_bytes());
+    let text = printed(alloc)?;
+    leaves(&rt, disk, &["show", "IMG", "log"], (0, text.as_str()))?;
     Ok(())
 }

@@ -5,5 +5,4 @@ pub mod Joins
 pub mod Pairs
 pub mod RunRecords
 pub mod RunSets
-pub mod SetMembers
 pub mod SmallTrees

@@ -1,5 +1,6 @@
 -- The rules on records of free runs, of either order, after a run is added or put in the place of another.
-use Rattle.std.proofs.Common.{◌≡◌, ◌≢◌, ◌⊎◌, ℕ, ◌<◌, ◌≤◌, true, false, List, [], ◌∷◌, length, map, get_or, eqb, refl, sym, ap, ◌∙◌, subst, ⊎_elim, arith}
+use Rattle.std.proofs.Common.{◌≡◌, ◌≢◌, ◌⊎◌, ℕ, ◌<◌, ◌≤◌, true, false, List, [], ◌∷◌, length, map, get_or, eqb, refl, sym, ap, ◌∙◌, ⊎_elim, arith}
+use Rattle.std.proofs.Math.Logic.{⊎_map}
 use Rattle.std.proofs.lemmas.Bool.{cases_Bool, eqb-true, ne_eqb}
 use Rattle.std.proofs.lemmas.Bool.Decides.{nat_tests}
 use Rattle.std.proofs.lemmas.Cmp.{ranked}
@@ -8,7 +9,6 @@ use Rattle.std.proofs.lemmas.List.Elements.{All-contains}
 use Rattle.std.proofs.lemmas.Map.Keys.{IsDistinct-from_apart}
 use Rattle.std.proofs.lemmas.Map.Steps.{length-le_from_distinct_below}
 use Rattle.std.proofs.lemmas.Map.Views.{Contains-from_any}
-use Rattle.std.specs.Cmp.{nat_cmp_is}
 use Rattle.std.specs.List.{All, AllPairs, Contains, IsDistinct}
 use Rattle.std.specs.Ordering.{is_eq, nat_cmp}
 use Rattle.std.specs.declared.cmp.Ordering.TheVariants.{Less, Equal}
@@ -18,10 +18,10 @@ use Rattle.xr_blocks.specs.Form.{Form, IsForm}
 use Rattle.xr_blocks.specs.FreeRunLaws.{is_block_form, is_size_form}
 use Rattle.xr_blocks.specs.FreeRuns.{block_form, block_span, size_form, size_order, size_span}
 use Rattle.xr_blocks.specs.SpanLaws.{apart_both, group_run}
-use Rattle.xr_blocks.specs.Spans.{apart, end_of, is_group_run}
+use Rattle.xr_blocks.specs.Spans.{apart, is_group_run}
 use Rattle.xr_blocks.specs.Tree.{AreRecords}
 use Rattle.xr_change.specs.Sets.{inserted, replaced}
-use Rattle.xr_space.proofs.SetMembers.{above, all_in, inserted_only, inserted_pairs, is_equal, pair_in, replaced_only, replaced_pairs}
+use Rattle.xr_tree.proofs.SetMembers.{above, all_in, inserted_only, inserted_pairs, is_equal, pair_in, replaced_only, replaced_pairs}
 
 abbrev first_block : Span → ℕ
 first_block s = s.start
@@ -61,24 +61,17 @@ by_size_runs = record {
   many = refl;
 }
 
-pub apart_cases : (a b : Span) → apart a b ≡ true → (end_of a < b.start) ⊎ (end_of b < a.start)
-apart_cases a b away = grind (arith, nat_tests)
-
-pub not_apart : (a b : Span) → apart a b ≡ false → (b.start ≤ end_of a) × (a.start ≤ end_of b)
-not_apart a b near = grind (arith, nat_tests)
-
 different_starts : (a b : Span) → apart a b ≡ true → a.start ≢ b.start
-different_starts a b away same =
-    ⊎_elim (λ (before : end_of a < b.start). absurd (omega arith)) (λ (behind : end_of b < a.start). absurd (omega arith)) (apart_cases a b away)
+different_starts a b away same = grind (arith, nat_tests)
 
 module _ {X : Type 0} (form : Form X) (span_of : X → Span) (runs : IsRunForm form span_of) where
   abbrev start_of : X → ℕ
   start_of x = first_block (span_of x)
 
-  pub agree_apart : (x y : X) → form.agree x y ≡ true → apart (span_of x) (span_of y) ≡ true
+  agree_apart : (x y : X) → form.agree x y ≡ true → apart (span_of x) (span_of y) ≡ true
   agree_apart x y agree = sym (runs.agrees x y) ∙ agree
 
-  pub valid_good : (x : X) → form.is_valid x ≡ true → is_group_run (span_of x) ≡ true
+  valid_good : (x : X) → form.is_valid x ≡ true → is_group_run (span_of x) ≡ true
   valid_good x valid = sym (runs.valid x) ∙ valid
 
   -- at most as many as a group has blocks
@@ -104,85 +97,62 @@ module _ {X : Type 0} (form : Form X) (span_of : X → Span) (runs : IsRunForm f
       omega (arith, good.1, good.2, here, at.2)) in
       omega (arith, few, long)
 
-  few_enough : (n : ℕ) → n ≤ 2048 → n ≤ form.most
-  few_enough n few = subst (λ (most : ℕ). n ≤ most) (sym runs.many) (omega (arith, few))
+  as_records : (xs : List X) → All (λ (x : X). form.is_valid x ≡ true) xs → AllPairs (λ (x y : X). form.order x y ≡ Less) xs
+      → AllPairs (λ (x y : X). form.agree x y ≡ true) xs → AreRecords form xs
+  as_records xs valid ascend agree = record { valid = valid; ascend = ascend; agree = agree; few = omega (arith, runs.many, few_runs xs valid agree) }
 
   untied : (x y : X) → apart (span_of x) (span_of y) ≡ true → is_eq (form.order x y) ≡ false
-  untied x y away = ⊎_elim
-      (λ (tied : is_eq (form.order x y) ≡ true).
-      absurd (different_starts (span_of x) (span_of y) away (runs.tied x y (is_equal (form.order x y) tied))))
-      (λ (other : is_eq (form.order x y) ≡ false). other)
-      (cases_Bool (is_eq (form.order x y)))
+  untied x y away =
+      grind (arith, cases_Bool (is_eq (form.order x y)), is_equal (form.order x y), runs.tied x y, different_starts (span_of x) (span_of y) away)
 
   pub inserted_records : (r : X) (xs : List X) → AreRecords form xs → is_group_run (span_of r) ≡ true
       → ((x : X) → Contains xs x → apart (span_of x) (span_of r) ≡ true) → AreRecords form (inserted form.order r xs)
   inserted_records r xs records good fits =
       let order = form.order in
       let total = runs.laws.total in
-      let agree : (x : X) → Contains xs x → form.agree x r ≡ true = λ x within. runs.agrees x r ∙ fits x within in
-      let valid : All (λ (x : X). form.is_valid x ≡ true) (inserted order r xs) = all_in (λ (x : X). form.is_valid x ≡ true) (inserted order r xs) (λ x within. ⊎_elim
-      (λ (new : x ≡ r). ap form.is_valid new ∙ runs.valid r ∙ good)
-      (λ (old : Contains xs x). All-contains (λ (y : X). form.is_valid y ≡ true) xs x records.valid old)
-      (inserted_only order total r xs x within)) in
-      let agrees : AllPairs (λ (x y : X). form.agree x y ≡ true) (inserted order r xs) =
-      inserted_pairs order total r (λ (x y : X). form.agree x y ≡ true) xs records.agree records.ascend
-      (λ x within less. agree x within) (λ x within low. runs.laws.agrees_both r x ∙ agree x within) in
-      record {
-        valid = valid;
-        ascend = inserted_pairs order total r (λ (x y : X). order x y ≡ Less) xs records.ascend records.ascend (λ x within less. less)
-            (λ x within low. above order total x r low (untied x r (fits x within)));
-        agree = agrees;
-        few = few_enough (length (inserted order r xs)) (few_runs (inserted order r xs) valid agrees);
-      }
+      let valid = All-contains (λ (x : X). form.is_valid x ≡ true) xs in
+      as_records (inserted order r xs)
+      (all_in (λ (x : X). form.is_valid x ≡ true) (inserted order r xs) (λ x within. ⊎_elim
+      (λ (new : x ≡ r). ap form.is_valid new ∙ runs.valid r ∙ good) (λ (old : Contains xs x). valid x records.valid old)
+      (inserted_only order total r xs x within)))
+      (inserted_pairs order total r (λ (x y : X). order x y ≡ Less) xs records.ascend records.ascend (λ x within less. less)
+      (λ x within low. above order total x r low (untied x r (fits x within))))
+      (inserted_pairs order total r (λ (x y : X). form.agree x y ≡ true) xs records.agree records.ascend
+      (λ x within less. runs.agrees x r ∙ fits x within) (λ x within low. runs.laws.agrees_both r x ∙ runs.agrees x r ∙ fits x within))
 
--- a run that meets or touches another stands in its place, where both are apart from the rest
-stays_below : (a old new : Span) → apart old new ≡ false → apart a new ≡ true → end_of a < old.start → a.start < new.start
-stays_below a old new near away before =
-    let close = not_apart old new near in
-    ⊎_elim
-    (λ (below : end_of a < new.start). let less : a.start < new.start = omega arith in less)
-    (λ (behind : end_of new < a.start). absurd (omega (arith, close.0, close.1)))
-    (apart_cases a new away)
+-- a run that meets or touches another stands on the same side of what is apart from both
+same_side : (x old new : Span) → apart old new ≡ false → apart x old ≡ true → apart x new ≡ true → nat_cmp x.start new.start ≡ nat_cmp x.start old.start
+same_side x old new near one other = grind (arith, nat_tests)
 
-stays_behind : (a old new : Span) → apart old new ≡ false → apart a new ≡ true → end_of old < a.start → new.start < a.start
-stays_behind a old new near away behind =
-    let close = not_apart old new near in
-    ⊎_elim
-    (λ (below : end_of a < new.start). absurd (omega (arith, close.0, close.1)))
-    (λ (more : end_of new < a.start). let less : new.start < a.start = omega arith in less)
-    (apart_cases a new away)
+other_side : (x old new : Span) → apart old new ≡ false → apart x old ≡ true → apart x new ≡ true → nat_cmp new.start x.start ≡ nat_cmp old.start x.start
+other_side x old new near one other = grind (arith, nat_tests)
+
+-- two records are one, or apart
+pub away_in : (xs : List ByBlock) → AreRecords block_form xs → (x y : ByBlock) → Contains xs x → Contains xs y
+    → (x ≡ y) ⊎ (apart (block_span x) (block_span y) ≡ true)
+away_in xs records x y one other = ⊎_map (λ same. same) (⊎_elim
+    (λ (agree : block_form.agree x y ≡ true). agree)
+    (λ (agree : block_form.agree y x ≡ true). apart_both (block_span x) (block_span y) ∙ agree))
+    (pair_in (λ (p q : ByBlock). block_form.agree p q ≡ true) xs x y records.agree one other)
+
+not_itself : (n : ℕ) → nat_cmp n n ≢ Less
+not_itself n less = grind (arith, nat_tests)
 
 module _ (old new : ByBlock) (xs : List ByBlock) (records : AreRecords block_form xs) (held : Contains xs old) (good : is_group_run (block_span new) ≡ true) (fits : (x : ByBlock) → Contains xs x → x ≢ old → apart (block_span x) (block_span new) ≡ true) (near : apart (block_span old) (block_span new) ≡ false) where
   other_apart : (x : ByBlock) → Contains xs x → x ≢ old → apart (block_span x) (block_span old) ≡ true
-  other_apart x within other = ⊎_elim
-      (λ (same : x ≡ old). absurd (other same))
-      (λ (pair : (block_form.agree x old ≡ true) ⊎ (block_form.agree old x ≡ true)). ⊎_elim
-      (λ (one : block_form.agree x old ≡ true). one)
-      (λ (one : block_form.agree old x ≡ true). apart_both (block_span x) (block_span old) ∙ one)
-      pair)
-      (pair_in (λ (a b : ByBlock). block_form.agree a b ≡ true) xs x old records.agree within held)
+  other_apart x within other = ⊎_elim (λ same. absurd (other same)) (λ away. away) (away_in xs records x old within held)
 
   below_new : (x : ByBlock) → Contains xs x → block_form.order x old ≡ Less → (block_form.order x new ≡ Less) × (block_form.agree x new ≡ true)
   below_new x within less =
-      let low : x.start < old.start = ranked x.start old.start Less (sym less) in
-      let other : x ≢ old = λ same. let lie : x.start ≡ old.start = ap (λ (r : ByBlock). r.start) same in absurd (omega arith) in
-      let before : end_of (block_span x) < old.start = ⊎_elim
-      (λ (is : end_of (block_span x) < old.start). is)
-      (λ (is : end_of (block_span old) < x.start). absurd (omega arith))
-      (apart_cases (block_span x) (block_span old) (other_apart x within other)) in
+      let other : x ≢ old = λ same. not_itself x.start (ap (λ (r : ByBlock). nat_cmp x.start r.start) same ∙ less) in
       let away = fits x within other in
-      (sym (nat_cmp_is x.start new.start Less (stays_below (block_span x) (block_span old) (block_span new) near away before)), away)
+      (same_side (block_span x) (block_span old) (block_span new) near (other_apart x within other) away ∙ less, away)
 
   behind_new : (x : ByBlock) → Contains xs x → block_form.order old x ≡ Less → (block_form.order new x ≡ Less) × (block_form.agree new x ≡ true)
   behind_new x within less =
-      let low : old.start < x.start = ranked old.start x.start Less (sym less) in
-      let other : x ≢ old = λ same. let lie : x.start ≡ old.start = ap (λ (r : ByBlock). r.start) same in absurd (omega arith) in
-      let behind : end_of (block_span old) < x.start = ⊎_elim
-      (λ (is : end_of (block_span x) < old.start). absurd (omega arith))
-      (λ (is : end_of (block_span old) < x.start). is)
-      (apart_cases (block_span x) (block_span old) (other_apart x within other)) in
+      let other : x ≢ old = λ same. not_itself x.start (ap (λ (r : ByBlock). nat_cmp r.start x.start) same ∙ less) in
       let away = fits x within other in (
-        sym (nat_cmp_is new.start x.start Less (stays_behind (block_span x) (block_span old) (block_span new) near away behind)),
+        other_side (block_span x) (block_span old) (block_span new) near (other_apart x within other) away ∙ less,
         apart_both (block_span new) (block_span x) ∙ away,
       )
 
@@ -190,18 +160,12 @@ module _ (old new : ByBlock) (xs : List ByBlock) (records : AreRecords block_for
   replaced_records =
       let order = block_form.order in
       let total = is_block_form.total in
-      let valid : All (λ (x : ByBlock). block_form.is_valid x ≡ true) (replaced order old new xs) = all_in (λ (x : ByBlock). block_form.is_valid x ≡ true) (replaced order old new xs) (λ x within. ⊎_elim
+      as_records block_form block_span by_block_runs (replaced order old new xs)
+      (all_in (λ (x : ByBlock). block_form.is_valid x ≡ true) (replaced order old new xs) (λ x within. ⊎_elim
       (λ (is : x ≡ new). ap block_form.is_valid is ∙ good)
       (λ (kept : (x ≢ old) × Contains xs x). All-contains (λ (y : ByBlock). block_form.is_valid y ≡ true) xs x records.valid kept.1)
-      (replaced_only order total old new xs x records.ascend within)) in
-      let agrees : AllPairs (λ (x y : ByBlock). block_form.agree x y ≡ true) (replaced order old new xs) =
-      replaced_pairs order total old new (λ (x y : ByBlock). block_form.agree x y ≡ true) xs records.agree records.ascend held
-      (λ x within less. (below_new x within less).1) (λ x within less. (behind_new x within less).1) in
-      record {
-        valid = valid;
-        ascend = replaced_pairs order total old new (λ (x y : ByBlock). order x y ≡ Less) xs records.ascend records.ascend held
-            (λ x within less. (below_new x within less).0) (λ x within less. (behind_new x within less).0);
-        agree = agrees;
-        few = few_enough block_form block_span by_block_runs (length (replaced order old new xs))
-            (few_runs block_form block_span by_block_runs (replaced order old new xs) valid agrees);
-      }
+      (replaced_only order total old new xs x records.ascend within)))
+      (replaced_pairs order total old new (λ (x y : ByBlock). order x y ≡ Less) xs records.ascend records.ascend held
+      (λ x within less. (below_new x within less).0) (λ x within less. (behind_new x within less).0))
+      (replaced_pairs order total old new (λ (x y : ByBlock). block_form.agree x y ≡ true) xs records.agree records.ascend held
+      (λ x within less. (below_new x within less).1) (λ x within less. (behind_new x within less).1))

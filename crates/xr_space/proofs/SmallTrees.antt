@@ -1,6 +1,6 @@
 -- A tree of free runs has at most two levels, and a root that isn't full where it has two: so an insertion takes at most two
--- blocks.
-use Rattle.std.proofs.Common.{◌≡◌, ℕ, zero, suc, ◌+◌, ◌-◌, ◌*◌, ◌/◌, ◌≤◌, Bool, true, false, if◌then◌else◌, List, [], ◌∷◌, ◌++◌, length, ap, ◌∙◌, subst, arith}
+-- blocks, and a change writes at most seven.
+use Rattle.std.proofs.Common.{◌≡◌, ℕ, zero, suc, ◌+◌, ◌/◌, ◌≤◌, false, List, [], ◌∷◌, ◌++◌, length, ap, ◌∙◌, arith}
 use Rattle.std.proofs.lemmas.Bool.{ne_eqb}
 use Rattle.std.proofs.lemmas.List.{append-nil, length-append, length-map}
 use Rattle.std.specs.List.{concat, flat_map}
@@ -12,11 +12,8 @@ use Rattle.xr_blocks.specs.Tree.{IsTreeIn, site_of, tree_held, tree_records}
 use Rattle.xr_blocks.specs.TreeBlock.{Entry, entries_in}
 use Rattle.xr_change.specs.Ways.{blocks_wanted, child_of, full_on_way, is_full, way_place}
 use Rattle.xr_space.proofs.RunRecords.{IsRunForm, few_runs}
+use Rattle.xr_tree.proofs.GrowthLemmas.{one_at_most}
 use Rattle.xr_tree.specs.BoundLaws.{few_blocks, nodes_hold}
-
-one_at_most : (t : Bool) → (if t then 1 else 0) ≤ 1
-one_at_most true = omega arith
-one_at_most false = omega arith
 
 row_within : {X : Type 0} (held : Held X) (level : ℕ) (row : List ℕ) → length row ≤ length (concat (rows_from held level row))
 unfolding rows_from
@@ -26,6 +23,12 @@ row_within held (suc level) row = omega (arith, length-append row (concat (rows_
 module _ {X : Type 0} (form : Form X) (span_of : X → Span) (runs : IsRunForm form span_of) (b : Blocks) (root : ℕ) where
   few_records : (level : ℕ) → IsTreeIn form b root level → length (tree_records form b root level) ≤ 2048
   few_records level tree = few_runs form span_of runs (tree_records form b root level) tree.records.valid tree.records.agree
+
+  half_leaf : form.leaf_max / 2 ≡ 252
+  half_leaf = omega (arith, runs.leaf)
+
+  half_node : form.node_max / 2 ≡ 168
+  half_node = omega (arith, runs.node)
 
   -- two levels of nodes would have too many records
   not_high : (level : ℕ) → IsTreeIn form b root (suc (suc level)) → ⊥
@@ -39,15 +42,15 @@ module _ {X : Type 0} (form : Form X) (span_of : X → Span) (runs : IsRunForm f
       let more = nodes_hold form runs.laws (site_of b) (block_at b) held (form.node_max / 2) level row tree.rows.2.0 in
       let under : length (row ++ concat (rows_from held level below)) ≡ length row + length (concat (rows_from held level below)) =
       length-append row (concat (rows_from held level below)) in
-      let records : length (flat_map held.records (leaves_from held (suc level) row)) ≤ 2048 = few_records (suc (suc level)) tree in
-      let leaves : ℕ = length (leaves_from held (suc level) row) in
-      let full : leaves * (505 / 2) ≤ length (flat_map held.records (leaves_from held (suc level) row)) =
-      subst (λ (most : ℕ). leaves * (most / 2) ≤ length (flat_map held.records (leaves_from held (suc level) row))) runs.leaf counts.0 in
-      let all : ℕ = length (concat (rows_from held (suc level) row)) in
-      let few : all * (336 / 2 - 1) + length row ≤ leaves * (336 / 2) =
-      subst (λ (most : ℕ). all * (most / 2 - 1) + length row ≤ leaves * (most / 2)) runs.node counts.1 in
-      let wide : length row * (336 / 2) ≤ length below = subst (λ (most : ℕ). length row * (most / 2) ≤ length below) runs.node more in
-      omega (arith, records, full, few, wide, some, under, row_within held level below)
+      let full = rw half_leaf at counts.0 in
+      let few = rw half_node at counts.1 in
+      let wide = rw half_node at more in
+      omega (arith, few_records (suc (suc level)) tree, full, few, wide, some, under, row_within held level below)
+
+  pub is_low : (level : ℕ) → IsTreeIn form b root level → level ≤ 1
+  is_low zero tree = omega arith
+  is_low (suc zero) tree = omega arith
+  is_low (suc (suc level)) tree = absurd (not_high level tree)
 
   -- a root over leaves isn't full
   root_has_room : IsTreeIn form b root 1 → is_full form b 1 root ≡ false
@@ -56,12 +59,10 @@ module _ {X : Type 0} (form : Form X) (span_of : X → Span) (runs : IsRunForm f
       let held = tree_held form b in
       let row : List ℕ = flat_map (named_below held) (root ∷ []) in
       let counts = few_blocks form runs.laws (site_of b) (block_at b) held 0 row tree.rows.2 in
-      let records : length (flat_map held.records row) ≤ 2048 = few_records 1 tree in
       let long : length row ≡ length (entries_in form (block_at b root)) =
       ap length (append-nil (named_below held root)) ∙ length-map (entries_in form (block_at b root)) (λ (e : Entry). e.child) in
-      let few : length row * (505 / 2) ≤ length (flat_map held.records row) =
-      subst (λ (most : ℕ). length row * (most / 2) ≤ length (flat_map held.records row)) runs.leaf counts.0 in
-      ne_eqb (length (entries_in form (block_at b root))) form.node_max (λ full. absurd (omega (arith, few, records, long, full, runs.node)))
+      let few = rw half_leaf at counts.0 in
+      ne_eqb (length (entries_in form (block_at b root))) form.node_max (λ full. absurd (omega (arith, few, few_records 1 tree, long, full, runs.node)))
 
   pub few_wanted : (level : ℕ) (r : X) → IsTreeIn form b root level → blocks_wanted form b level root r ≤ 2
   unfolding full_on_way

@@ -1,6 +1,6 @@
 -- A group's free blocks, in two trees of one overlay that hold the same runs: which blocks are free, and what a change of
 -- them leaves.
-use Rattle.std.specs.Prelude.{◌≡◌, ◌≢◌, ◌↔◌, ◌⊎◌, ℕ, ◌+◌, ◌≤◌, List, ◌++◌, min, IfSome, Option, Some, true, false}
+use Rattle.std.specs.Prelude.{◌≡◌, ◌≢◌, ◌↔◌, ◌⊎◌, ℕ, ◌+◌, ◌≤◌, List, ◌++◌, length, min, IfSome, Option, Some, true, false}
 use Rattle.std.specs.Ordering.{is_lt}
 use Rattle.std.specs.List.{Contains}
 use Rattle.xr_blocks.specs.declared.free_runs.ByBlock.{ByBlock}
@@ -8,7 +8,7 @@ use Rattle.xr_blocks.specs.declared.free_runs.BySize.{BySize}
 use Rattle.xr_blocks.specs.declared.span.Span.{Span}
 use Rattle.xr_blocks.specs.Frame.{ChangesOnly}
 use Rattle.xr_blocks.specs.FreeRuns.{block_form, by_block, by_size, size_form, size_order}
-use Rattle.xr_blocks.specs.Overlay.{Blocks, free_count}
+use Rattle.xr_blocks.specs.Overlay.{Blocks, changed_blocks, free_count}
 use Rattle.xr_blocks.specs.Spans.{IsIn, is_group_run, touch}
 use Rattle.xr_blocks.specs.Tree.{IsTreeIn, tree_blocks, tree_records}
 use Rattle.xr_space.specs.declared.space.Space.{Space}
@@ -86,11 +86,12 @@ Loses before run after = (other : Span) → after other ↔ ((other ≢ run) × 
 abbrev pub Swaps : (Span → Type 0) → Span → Span → (Span → Type 0) → Type 0
 Swaps before old new after = (other : Span) → after other ↔ ((other ≡ new) ⊎ ((other ≢ old) × before other))
 
--- a change of the two trees, which takes at most so many blocks of the pool
-pub record IsStep (before : Blocks) (s : Space) (after : Blocks) (t : Space) (most : ℕ) : Type 0 where
+-- a change of the two trees, which takes at most so many blocks of the pool, and leaves at most so many changed blocks more
+pub record IsStep (before : Blocks) (s : Space) (after : Blocks) (t : Space) (most writes : ℕ) : Type 0 where
   pub space : IsSpace after t
   pub frame : ChangesOnly before (space_blocks before s) after (space_blocks after t)
   pub room : free_count before ≤ free_count after + most
+  pub changed : length (changed_blocks after) ≤ length (changed_blocks before) + writes
 
 -- a run that may be made free: it is good, none of it is free, and no free run touches it but the given one
 pub record IsLoose (free : Span → Type 0) (run : Span) (beside : Option Span) : Type 0 where

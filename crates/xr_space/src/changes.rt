@@ -14,7 +14,7 @@ impl Space {
         requires good { is_group_run run ≡ true }
         requires fits { (other : Span) → IsFreeRun over.old self.old other → apart other run ≡ true }
         requires room { 2 ≤ free_count over.old }
-        ensures step { IsStep over.old self.old over.new self.new 2 }
+        ensures step { IsStep over.old self.old over.new self.new 2 7 }
         ensures set { Gains (IsFreeRun over.old self.old) run (IsFreeRun over.new self.new) }
         ensures sizes { size_records over.new self.new ≡ size_records over.old self.old }
     {
@@ -28,7 +28,7 @@ impl Space {
     fn remove_by_block(&mut self, over: &mut Overlay, run: Span)
         requires space { IsSpace over.old self.old }
         requires held { IsFreeRun over.old self.old run }
-        ensures step { IsStep over.old self.old over.new self.new 0 }
+        ensures step { IsStep over.old self.old over.new self.new 0 7 }
         ensures set { Loses (IsFreeRun over.old self.old) run (IsFreeRun over.new self.new) }
         ensures sizes { size_records over.new self.new ≡ size_records over.old self.old }
     {
@@ -45,7 +45,7 @@ impl Space {
         requires good { is_group_run new ≡ true }
         requires fits { (other : Span) → IsFreeRun over.old self.old other → other ≢ old → apart other new ≡ true }
         requires near { apart old new ≡ false }
-        ensures step { IsStep over.old self.old over.new self.new 0 }
+        ensures step { IsStep over.old self.old over.new self.new 0 7 }
         ensures set { Swaps (IsFreeRun over.old self.old) old new (IsFreeRun over.new self.new) }
         ensures sizes { size_records over.new self.new ≡ size_records over.old self.old }
     {
@@ -65,7 +65,7 @@ impl Space {
         requires good { is_group_run run ≡ true }
         requires fits { (other : Span) → IsSized over.old self.old other → apart other run ≡ true }
         requires room { 2 ≤ free_count over.old }
-        ensures step { IsStep over.old self.old over.new self.new 2 }
+        ensures step { IsStep over.old self.old over.new self.new 2 7 }
         ensures set { Gains (IsSized over.old self.old) run (IsSized over.new self.new) }
         ensures blocks { block_records over.new self.new ≡ block_records over.old self.old }
     {
@@ -79,7 +79,7 @@ impl Space {
     fn remove_by_size(&mut self, over: &mut Overlay, run: Span)
         requires space { IsSpace over.old self.old }
         requires held { IsSized over.old self.old run }
-        ensures step { IsStep over.old self.old over.new self.new 0 }
+        ensures step { IsStep over.old self.old over.new self.new 0 7 }
         ensures set { Loses (IsSized over.old self.old) run (IsSized over.new self.new) }
         ensures blocks { block_records over.new self.new ≡ block_records over.old self.old }
     {
@@ -97,7 +97,7 @@ impl Space {
         requires good { is_group_run run ≡ true }
         requires fits { (other : Span) → IsFreeRun over.old self.old other → apart other run ≡ true }
         requires room { 4 ≤ free_count over.old }
-        ensures step { IsStep over.old self.old over.new self.new 4 }
+        ensures step { IsStep over.old self.old over.new self.new 4 14 }
         ensures paired { ArePaired over.new self.new }
         ensures set { Gains (IsFreeRun over.old self.old) run (IsFreeRun over.new self.new) }
     {
@@ -110,7 +110,7 @@ impl Space {
         requires space { IsSpace over.old self.old }
         requires paired { ArePaired over.old self.old }
         requires held { IsFreeRun over.old self.old run }
-        ensures step { IsStep over.old self.old over.new self.new 0 }
+        ensures step { IsStep over.old self.old over.new self.new 0 14 }
         ensures paired { ArePaired over.new self.new }
         ensures set { Loses (IsFreeRun over.old self.old) run (IsFreeRun over.new self.new) }
     {
@@ -127,7 +127,7 @@ impl Space {
         requires fits { (other : Span) → IsFreeRun over.old self.old other → other ≢ old → apart other new ≡ true }
         requires near { apart old new ≡ false }
         requires room { 2 ≤ free_count over.old }
-        ensures step { IsStep over.old self.old over.new self.new 2 }
+        ensures step { IsStep over.old self.old over.new self.new 2 21 }
         ensures paired { ArePaired over.new self.new }
         ensures set { Swaps (IsFreeRun over.old self.old) old new (IsFreeRun over.new self.new) }
     {

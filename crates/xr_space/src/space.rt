@@ -1,8 +1,8 @@
 //! The free blocks of a group, and how some of them are taken and given back.
-ghost use Rattle.std.specs.Prelude.{◌≡◌, ◌≢◌, ℕ, ◌+◌, ◌≤◌, ◌↔◌, ◌⊎◌, true, IsNone, IfSome};
+ghost use Rattle.std.specs.Prelude.{◌≡◌, ◌≢◌, ℕ, ◌+◌, ◌≤◌, ◌↔◌, ◌⊎◌, true, length, IsNone, IfSome};
 ghost use Rattle.xr_blocks.specs.declared.span.Span.{Span};
 ghost use Rattle.xr_blocks.specs.Frame.{ChangesOnly};
-ghost use Rattle.xr_blocks.specs.Overlay.{free_count};
+ghost use Rattle.xr_blocks.specs.Overlay.{changed_blocks, free_count};
 ghost use Rattle.xr_blocks.specs.Spans.{IsIn, end_of, is_group_run, touch};
 ghost use Rattle.xr_space.specs.Space.{ArePaired, IsFirst, IsFreeBlock, IsFreeRun, IsFront, IsLoose, IsSpace, IsStep, space_blocks};
 
@@ -68,7 +68,7 @@ impl Space {
         requires first { IsFirst over.old self.old whole }
         requires some { 1 ≤ need }
         requires room { 2 ≤ free_count over.old }
-        ensures step { IsStep over.old self.old over.new self.new 2 }
+        ensures step { IsStep over.old self.old over.new self.new 2 21 }
         ensures paired { ArePaired over.new self.new }
         ensures good { is_group_run result ≡ true }
         ensures front { IsFront over.old self.old need result }
@@ -91,7 +91,8 @@ impl Space {
     }
 
     /// Takes the first blocks of the free run with the lowest start: as many as are needed, or all that it has. None
-    /// exactly where no block is free. Where one is, at most two blocks of the pool go to the trees.
+    /// exactly where no block is free. Where one is, at most two blocks of the pool go to the trees, and the overlay has at
+    /// most 21 changed blocks more: there are up to three changes of a tree, of seven blocks each.
     pub fn take_first(&mut self, over: &mut Overlay, need: u32) -> Option<Span>
         requires space { IsSpace over.old self.old }
         requires paired { ArePaired over.old self.old }
@@ -107,6 +108,7 @@ impl Space {
         ensures taken { IfSome result (λ run. (n : ℕ) → IsFreeBlock over.new self.new n ↔ (IsFreeBlock over.old self.old n × ¬ (IsIn run n))) }
         ensures frame { ChangesOnly over.old (space_blocks over.old self.old) over.new (space_blocks over.new self.new) }
         ensures room { free_count over.old ≤ free_count over.new + 2 }
+        ensures changed { length (changed_blocks over.new) ≤ length (changed_blocks over.old) + 21 }
     {
         match self.first_run(over) {
             None => None,
@@ -120,7 +122,7 @@ impl Space {
         requires paired { ArePaired over.old self.old }
         requires loose { IsLoose (IsFreeRun over.old self.old) run beside }
         requires room { 4 ≤ free_count over.old }
-        ensures step { IsStep over.old self.old over.new self.new 4 }
+        ensures step { IsStep over.old self.old over.new self.new 4 21 }
         ensures paired { ArePaired over.new self.new }
         ensures given { (n : ℕ) → IsFreeBlock over.new self.new n ↔ (IsFreeBlock over.old self.old n ⊎ IsIn run n) }
     {
@@ -136,7 +138,8 @@ impl Space {
         }
     }
 
-    /// Makes a run free. It becomes one with the free runs that touch it. At most four blocks of the pool go to the trees.
+    /// Makes a run free. It becomes one with the free runs that touch it. At most four blocks of the pool go to the trees,
+    /// and the overlay has at most 35 changed blocks more: there are up to five changes of a tree, of seven blocks each.
     pub fn give(&mut self, over: &mut Overlay, run: Span)
         requires space { IsSpace over.old self.old }
         requires paired { ArePaired over.old self.old }
@@ -148,6 +151,7 @@ impl Space {
         ensures given { (n : ℕ) → IsFreeBlock over.new self.new n ↔ (IsFreeBlock over.old self.old n ⊎ IsIn run n) }
         ensures frame { ChangesOnly over.old (space_blocks over.old self.old) over.new (space_blocks over.new self.new) }
         ensures room { free_count over.old ≤ free_count over.new + 4 }
+        ensures changed { length (changed_blocks over.new) ≤ length (changed_blocks over.old) + 35 }
     {
         let left = self.left_of(over, run);
         let right = self.right_of(over, run);

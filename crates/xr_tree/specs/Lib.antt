@@ -1,2 +1,4 @@
 pub mod BoundLaws
 pub mod Bounds
+pub mod FamilyLaws
+pub mod Growth

@@ -3,6 +3,10 @@
 
 mod bounds;
 #[cfg(test)]
+mod change_tests;
+#[cfg(test)]
+mod growth;
+#[cfg(test)]
 mod tests;
 mod tree;
 

@@ -12,14 +12,14 @@ use xr_lookup::Reach;
 use xr_node::tree_fault::{TreeFault, TreeKind};
 use xr_verify::Kept;
 
-const GROUP_BLOCKS: usize = 512;
+pub(crate) const GROUP_BLOCKS: usize = 512;
 
-const FILE_BLOCKS: usize = 8;
+pub(crate) const FILE_BLOCKS: usize = 8;
 
 /// The first image blocks of group 0 and of file 3, and the inode number of the file.
-const GROUP_FIRST: u32 = 776;
+pub(crate) const GROUP_FIRST: u32 = 776;
 
-const FILE_FIRST: u32 = 544;
+pub(crate) const FILE_FIRST: u32 = 544;
 
 const INODE: u64 = 131;
 
@@ -36,9 +36,9 @@ const MOST_BYTES: usize = 24;
 
 /// Blocks that are being laid out, by the image block of the first of them.
 #[derive(Drop)]
-struct Blocks {
+pub(crate) struct Blocks {
     first: u32,
-    bytes: Vec<u8>,
+    pub bytes: Vec<u8>,
 }
 
 /// A block of a tree, but for its items.
@@ -106,7 +106,7 @@ fn put_record<R: Record>(rt: &impl Abort, bytes: &mut [u8], at: usize, record: &
 }
 
 /// Lays out a leaf.
-fn put_leaf<R: Record>(
+pub(crate) fn put_leaf<R: Record>(
     rt: &impl Abort,
     blocks: &mut Blocks,
     number: usize,
@@ -169,7 +169,12 @@ fn put_tree<R: Record>(rt: &impl Abort, blocks: &mut Blocks, one: &[R], two: &[R
 }
 
 /// Blocks of zeros, but for the identifier in the first.
-fn empty(rt: &impl Abort, alloc: Global, first: u32, count: usize) -> Result<Blocks, AllocError> {
+pub(crate) fn empty(
+    rt: &impl Abort,
+    alloc: Global,
+    first: u32,
+    count: usize,
+) -> Result<Blocks, AllocError> {
     assert!(rt; count <= GROUP_BLOCKS);
     let mut bytes = vec![in alloc; 0; BLOCK_BYTES * count]?;
     put(rt, &mut bytes, 16, b"the tree's image");
@@ -256,7 +261,7 @@ fn stands<R: Kept + Reach + PartialEq>(
 }
 
 /// A kind of record with one for each number, none of which touches the next.
-trait Numbered: Drop {
+pub(crate) trait Numbered: Drop {
     fn numbered(i: u32) -> Self;
 }
 
@@ -365,7 +370,7 @@ const MERGE: Option<TreeFault> = Some(TreeFault {
     kind: TreeKind::Merge,
 });
 
-fn owned(start: u32, len: u32, owner: u64, off: u64) -> Reverse {
+pub(crate) fn owned(start: u32, len: u32, owner: u64, off: u64) -> Reverse {
     Reverse {
         start,
         len,
@@ -576,12 +581,17 @@ fn put_three_levels(rt: &impl Abort, blocks: &mut Blocks, records: &[Reverse]) {
     put_node(rt, blocks, laid, 2, records, NODE_RECORDS);
 }
 
-/// So many records of a tree of owners: 23 files share each block.
+/// A record for each number, in their order: 23 files share each block.
+pub(crate) fn crowded(i: u32) -> Reverse {
+    owned(512 + i / 23, 1, u64::from(128 + i % 23), 0)
+}
+
+/// So many records of a tree of owners.
 fn crowd(rt: &impl Abort, alloc: Global, count: u32) -> Result<Vec<Reverse>, AllocError> {
     assert!(rt; count < 65536);
     let mut records = Vec::new(alloc);
     for i in 0..count {
-        records.push(owned(512 + i / 23, 1, u64::from(128 + i % 23), 0))?;
+        records.push(crowded(i))?;
     }
     Ok(records)
 }

@@ -1,17 +1,20 @@
 use Rattle.std.proofs.Common.{◌≡◌, ℕ, ◌+◌, ◌-◌, ◌≤◌, [], ◌∷◌, length, suc, sym, subst, arith}
-use Rattle.xr_blocks.specs.Overlay.{block_at}
+use Rattle.xr_blocks.specs.Overlay.{Blocks, block_at, with_given}
 use Rattle.xr_blocks.specs.Tree.{AreRecords, least_of_root, tree_records}
 use Rattle.xr_blocks.specs.TreeBlock.{entries_in}
 use Rattle.xr_change.proofs.InTree.{in_pool, is_under}
-use Rattle.xr_change.proofs.WholeRemoving.{leaf_root_stays, root_in_row, root_lowered, root_stays}
+use Rattle.xr_change.proofs.WholeChanges.{leaf_stays, lowered, root_in_row, root_stays}
 use Rattle.xr_change.specs.Alters.{AreRowsIn}
 use Rattle.xr_change.specs.Lowers.{Lowers}
-use Rattle.xr_change.specs.Ways.{HasSome, IsInTree, item_count}
+use Rattle.xr_change.specs.Ways.{HasSome, IsInTree, child_of, item_count}
 use Rattle.xr_change.proofs.cut.lower.Goals as goal
 
 pub returns-then-root-eq0 : goal.returns-then-root-eq0
 returns-then-root-eq0 g c =
-    leaf_root_stays g.R.Record.form g.met.R.Record.is_form c.args.over.now c.args.root.level c.args.root.number c.requires.rows c.requires.rules c.if-root-eq0.true
+    let form = g.R.Record.form in
+    let laws = g.met.R.Record.is_form in
+    let over = c.args.over.now in
+    root_stays form laws over c.args.root.level c.args.root.number c.requires.rows c.requires.rules (leaf_stays form laws over c.args.root.level c.args.root.number c.if-root-eq0.true)
 
 pub child_count-requires : goal.child_count-requires
 child_count-requires g c =
@@ -59,5 +62,7 @@ returns g c =
     let rules = subst (λ (l : ℕ). AreRecords form (tree_records form over n l)) same c.requires.rules in
     let some : 1 ≤ length (entries_in form (block_at over n)) = subst (λ (l : ℕ). HasSome form over l n) same c.requires.some in
     let one : length (entries_in form (block_at over n)) ≡ 1 = omega (arith, some, c.child_count.ensures, c.if-child_count-gt1.false) in
-    subst (λ (l : ℕ). Lowers form over c.give_block.new.self n l child below) (sym same)
-    (root_lowered form g.met.R.Record.is_form over c.has_blocks.ensures.image below n child rows rules one c.child_block-number.ensures.child c.give_block.new.self c.give_block.ensures)
+    subst (λ (z : Blocks). Lowers form over z n level child below) (sym c.give_block.ensures)
+    (subst (λ (m : ℕ). Lowers form over (with_given over n) n level m below) (sym c.child_block-number.ensures.kth.is)
+    (subst (λ (l : ℕ). Lowers form over (with_given over n) n l (child_of form over n 0) below) (sym same)
+    (lowered form g.met.R.Record.is_form over c.is_known.ensures.all below n rows one rules)))

@@ -5,14 +5,13 @@ use Rattle.xr_blocks.specs.Tree.{site_of}
 use Rattle.xr_blocks.specs.TreeBlock.{count_in}
 use Rattle.xr_change.proofs.Dealing.{copy_count, merge_dealt}
 use Rattle.xr_change.proofs.ItemFacts.{gathers_as}
-use Rattle.xr_change.proofs.Neighbours.{known_of}
 use Rattle.xr_node.specs.BlockTest.{left_in, right_in}
 use Rattle.xr_change.specs.Writes.{Writes}
 use Rattle.xr_change.proofs.deal.merge_items.Goals as goal
 
 pub gather-requires : goal.gather-requires
 gather-requires g c =
-    let known = known_of c.args.over.now c.has_blocks.ensures.image c.has_blocks.ensures.blocks c.has_blocks.ensures.identified in
+    let known = c.is_known.ensures in
     let first = copy_count g.R.Record.form g.met.R.Record.is_form c.args.over.now known c.args.level c.args.c _ c.copy_of-first.ensures c.requires.placed.0 in
     let second = copy_count g.R.Record.form g.met.R.Record.is_form c.args.over.now known c.args.level c.args.d _ c.copy_of-second.ensures c.requires.placed.1 in
     record {
@@ -26,7 +25,7 @@ gather-requires g c =
 
 pub returns : goal.returns
 returns g c =
-    let known = known_of c.args.over.now c.has_blocks.ensures.image c.has_blocks.ensures.blocks c.has_blocks.ensures.identified in
+    let known = c.is_known.ensures in
     let form = g.R.Record.form in
     let a = c.args.over.now in
     let level = c.args.level in

@@ -4,13 +4,12 @@ use Rattle.xr_blocks.specs.Tree.{site_of}
 use Rattle.xr_blocks.specs.TreeBlock.{count_in}
 use Rattle.xr_change.proofs.Dealing.{copy_count, share_dealt}
 use Rattle.xr_change.proofs.ItemFacts.{gathers_as}
-use Rattle.xr_change.proofs.Neighbours.{known_of}
 use Rattle.xr_node.specs.BlockTest.{left_in, right_in}
 use Rattle.xr_change.proofs.deal.share_items.Goals as goal
 
 pub gather-requires : goal.gather-requires
 gather-requires g c =
-    let known = known_of c.args.over.now c.has_blocks.ensures.image c.has_blocks.ensures.blocks c.has_blocks.ensures.identified in
+    let known = c.is_known.ensures in
     let first = copy_count g.R.Record.form g.met.R.Record.is_form c.args.over.now known c.args.level c.args.c _ c.copy_of-first.ensures c.requires.placed.0 in
     let second = copy_count g.R.Record.form g.met.R.Record.is_form c.args.over.now known c.args.level c.args.d _ c.copy_of-second.ensures c.requires.placed.1 in
     record {
@@ -24,7 +23,7 @@ gather-requires g c =
 
 pub gather-requires-2 : goal.gather-requires-2
 gather-requires-2 g c =
-    let known = known_of c.args.over.now c.has_blocks.ensures.image c.has_blocks.ensures.blocks c.has_blocks.ensures.identified in
+    let known = c.is_known.ensures in
     let first = copy_count g.R.Record.form g.met.R.Record.is_form c.args.over.now known c.args.level c.args.c _ c.copy_of-first.ensures c.requires.placed.0 in
     let second = copy_count g.R.Record.form g.met.R.Record.is_form c.args.over.now known c.args.level c.args.d _ c.copy_of-second.ensures c.requires.placed.1 in
     let low = c.count_of.ensures.count ∙ first.0 in
@@ -40,7 +39,7 @@ gather-requires-2 g c =
 
 pub returns : goal.returns
 returns g c =
-    let known = known_of c.args.over.now c.has_blocks.ensures.image c.has_blocks.ensures.blocks c.has_blocks.ensures.identified in
+    let known = c.is_known.ensures in
     let form = g.R.Record.form in
     let a = c.args.over.now in
     let level = c.args.level in
@@ -49,7 +48,7 @@ returns g c =
     let low = c.neighbours-left in
     let high = c.neighbours-left-2 in
     let dealt = share_dealt form g.met.R.Record.is_form a known level c.args.c c.args.d c.requires.placed.0 c.requires.placed.1 c.count_of.result c.count_of-2.result
-    (c.count_of.ensures.count ∙ ap count_in first) (c.count_of-2.ensures.count ∙ ap count_in second) c.requires.apart c.args.count
+    (c.count_of.ensures.count ∙ ap count_in first) (c.count_of-2.ensures.count ∙ ap count_in second) c.requires.apart c.requires.beside c.args.count
     c.gather.new.over c.gather-2.new.over c.gather.ensures.writes c.gather-2.ensures.writes c.requires.low.0 c.requires.high
     (gathers_as form level c.args.c (site_of a) _ (block_at a c.args.c) _ (block_at a c.args.d) 0 c.args.count low.result.0 _ low.result.1 _ _ first second
     (low.ensures.left ∙ ap (left_in form) first) (low.ensures.right ∙ ap (right_in form) first) c.gather.ensures.block)

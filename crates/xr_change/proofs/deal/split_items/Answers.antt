@@ -5,14 +5,13 @@ use Rattle.xr_blocks.specs.Tree.{site_of}
 use Rattle.xr_blocks.specs.TreeBlock.{count_in}
 use Rattle.xr_change.proofs.Dealing.{copy_count, split_dealt}
 use Rattle.xr_change.proofs.ItemFacts.{gathers_as}
-use Rattle.xr_change.proofs.Neighbours.{known_of}
 use Rattle.xr_change.specs.Writes.{Writes}
 use Rattle.xr_node.specs.BlockTest.{left_in, right_in}
 use Rattle.xr_change.proofs.deal.split_items.Goals as goal
 
 pub gather-requires : goal.gather-requires
 gather-requires g c =
-    let known = known_of c.args.over.now c.has_blocks.ensures.image c.has_blocks.ensures.blocks c.has_blocks.ensures.identified in
+    let known = c.is_known.ensures in
     let size = copy_count g.R.Record.form g.met.R.Record.is_form c.args.over.now known c.args.level c.args.c _ c.copy_of-block.ensures c.requires.placed in
     record {
       here = c.requires.placed.below;
@@ -25,7 +24,7 @@ gather-requires g c =
 
 pub gather-requires-2 : goal.gather-requires-2
 gather-requires-2 g c =
-    let known = known_of c.args.over.now c.has_blocks.ensures.image c.has_blocks.ensures.blocks c.has_blocks.ensures.identified in
+    let known = c.is_known.ensures in
     let size = copy_count g.R.Record.form g.met.R.Record.is_form c.args.over.now known c.args.level c.args.c _ c.copy_of-block.ensures c.requires.placed in
     record {
       here = omega (arith, c.requires.within, c.gather.ensures.writes.same.pool);
@@ -38,7 +37,7 @@ gather-requires-2 g c =
 
 pub returns : goal.returns
 returns g c =
-    let known = known_of c.args.over.now c.has_blocks.ensures.image c.has_blocks.ensures.blocks c.has_blocks.ensures.identified in
+    let known = c.is_known.ensures in
     let form = g.R.Record.form in
     let a = c.args.over.now in
     let level = c.args.level in

@@ -1,63 +1,36 @@
-use Rattle.std.proofs.Common.{◌≤◌, ◌<◌, ℕ, List, sym, ap, ◌∙◌, subst, arith}
+use Rattle.std.proofs.Common.{arith}
 use Rattle.std.proofs.lemmas.List.Edits.{length-remove}
 use Rattle.std.specs.List.{remove}
 use Rattle.xr_blocks.specs.Overlay.{block_at}
-use Rattle.xr_blocks.specs.TreeBlock.{count_in, records_in}
-use Rattle.xr_change.proofs.Neighbours.{known_of}
-use Rattle.xr_change.proofs.InTree.{in_pool, is_under, leaf_alone, leaf_alters, leaf_set, leaf_stands}
+use Rattle.xr_blocks.specs.TreeBlock.{Place, Site, records_in}
+use Rattle.xr_change.proofs.InTree.{in_pool, leaf_changes, leaf_free, leaf_read, leaf_stands}
 use Rattle.xr_change.proofs.SetLemmas.{removed_at}
-use Rattle.xr_change.proofs.Written.{block_writes}
 use Rattle.xr_change.specs.Sets.{removed}
-use Rattle.xr_edit.specs.Edit.{IsLeafOf}
-use Rattle.xr_lookup.proofs.DescentLemmas.{leaf_is}
 use Rattle.xr_change.proofs.leaves.remove_from_leaf.Goals as goal
-
-pub records_before-k-requires : goal.records_before-k-requires
-records_before-k-requires g c = is_under g.R.Record.form c.args.over.now 0 c.args.n c.requires.here
 
 pub block_mut-requires : goal.block_mut-requires
 block_mut-requires g c = in_pool g.R.Record.form c.args.over.now 0 c.args.n c.requires.here
 
-pub cut_record-requires-clause-place : goal.cut_record-requires-clause-place
-cut_record-requires-clause-place g c =
+pub cut_record-requires : goal.cut_record-requires
+cut_record-requires g c =
     let form = g.R.Record.form in
     let laws = g.met.R.Record.is_form in
-    let known = known_of c.args.over.now c.has_blocks.ensures.image c.has_blocks.ensures.blocks c.has_blocks.ensures.identified in
-    let leaf = leaf_is form laws c.args.over.now c.args.n (is_under form c.args.over.now 0 c.args.n c.requires.here) in
-    let stands = leaf_stands form laws c.args.over.now c.has_blocks.ensures.image known c.args.n c.requires.here c.args.r.now c.records_before-k.result c.records_before-k.ensures c.requires.held in
-    subst (λ (bytes : List ℕ). c.records_before-k.result < count_in bytes) (sym c.block_mut.ensures.value) (omega (arith, leaf.counted, stands.0))
+    let leaf = leaf_read form laws c.args.over.now c.is_known.ensures c.args.n c.requires.here c.block_mut.result.now c.block_mut.ensures.value in
+    let stands = leaf_stands form laws c.args.over.now c.is_known.ensures c.args.n c.requires.here c.args.r.now c.records_before-k.result c.records_before-k.ensures c.requires.held in
+    record { place = omega (arith, leaf, stands.0); few = omega (arith, leaf, g.met.R.Record.numbers.same_leaf_max) }
 
-pub cut_record-requires-clause-few : goal.cut_record-requires-clause-few
-cut_record-requires-clause-few g c =
-    let form = g.R.Record.form in
-    let leaf = leaf_is form g.met.R.Record.is_form c.args.over.now c.args.n (is_under form c.args.over.now 0 c.args.n c.requires.here) in
-    subst (λ (bytes : List ℕ). count_in bytes ≤ g.R.Record.LEAF_MAX) (sym c.block_mut.ensures.value)
-    (omega (arith, leaf.few, g.met.R.Record.numbers.same_leaf_max))
-
-pub returns-clause-alters : goal.returns-clause-alters
-returns-clause-alters g c = λ floor many.
+pub returns : goal.returns
+returns g c =
     let form = g.R.Record.form in
     let laws = g.met.R.Record.is_form in
-    let known = known_of c.args.over.now c.has_blocks.ensures.image c.has_blocks.ensures.blocks c.has_blocks.ensures.identified in
-    let records = records_in form (block_at c.args.over.now c.args.n) in
-    let stands = leaf_stands form laws c.args.over.now c.has_blocks.ensures.image known c.args.n c.requires.here c.args.r.now c.records_before-k.result c.records_before-k.ensures c.requires.held in
     let k = c.records_before-k.result in
-    leaf_alters form laws c.args.over.now c.has_blocks.ensures.image known c.args.n c.requires.here c.cut_record.new.block (remove records k)
-    (λ site place whole. c.cut_record.ensures site place records (subst (IsLeafOf form site place records) (sym c.block_mut.ensures.value) whole))
-    floor (omega (arith, many, length-remove records k stands.0))
-
-pub returns-clause-set : goal.returns-clause-set
-returns-clause-set g c =
-    let form = g.R.Record.form in
-    let laws = g.met.R.Record.is_form in
-    let known = known_of c.args.over.now c.has_blocks.ensures.image c.has_blocks.ensures.blocks c.has_blocks.ensures.identified in
-    let records = records_in form (block_at c.args.over.now c.args.n) in
-    let k = c.records_before-k.result in
-    let stands = leaf_stands form laws c.args.over.now c.has_blocks.ensures.image known c.args.n c.requires.here c.args.r.now k c.records_before-k.ensures c.requires.held in
-    leaf_set form laws c.args.over.now c.has_blocks.ensures.image known c.args.n c.requires.here c.cut_record.new.block (remove records k)
-    (λ site place whole. c.cut_record.ensures site place records (subst (IsLeafOf form site place records) (sym c.block_mut.ensures.value) whole))
-    (removed form.order c.args.r.now _) (removed_at form.order c.args.r.now records k c.records_before-k.ensures stands.0 stands.1 ∙ ap (removed form.order c.args.r.now) (sym (leaf_alone form c.args.over.now c.args.n)))
-
-pub returns-clause-writes : goal.returns-clause-writes
-returns-clause-writes g c =
-    block_writes c.args.over.now c.args.n c.cut_record.new.block c.has_blocks.ensures.image (in_pool g.R.Record.form c.args.over.now 0 c.args.n c.requires.here)
+    let r = c.args.r.now in
+    let held = records_in form (block_at c.args.over.now c.args.n) in
+    let stands = leaf_stands form laws c.args.over.now c.is_known.ensures c.args.n c.requires.here r k c.records_before-k.ensures c.requires.held in
+    let made = λ (site : Site) (place : Place). c.cut_record.ensures site place held in
+    let free = leaf_free form laws c.args.over.now c.is_known.ensures c.args.n c.requires.here _ _ c.block_mut.ensures.value (remove held k) made in
+    record {
+      changes = leaf_changes form laws c.args.over.now c.is_known.ensures c.args.n c.requires.here _ _ c.block_mut.ensures.value (remove held k) made 1 (removed form.order r)
+          (removed_at form.order r held k c.records_before-k.ensures stands.0 stands.1) (omega (arith, length-remove held k stands.0));
+      free = omega (arith, free);
+    }

@@ -4,10 +4,9 @@ use Rattle.xr_blocks.specs.OverlayLaws.{block_written}
 use Rattle.xr_blocks.specs.Rows.{half, key_held}
 use Rattle.xr_blocks.specs.Tree.{tree_held}
 use Rattle.xr_blocks.specs.TreeBlock.{Entry}
-use Rattle.xr_change.proofs.Neighbours.{known_of}
-use Rattle.xr_change.proofs.Mending.{keyed_again, row_below, row_keyed}
+use Rattle.xr_change.proofs.Stepping.{keyed_again, row_below, row_keyed}
 use Rattle.xr_change.proofs.Written.{block_writes}
-use Rattle.xr_change.specs.Items.{HasKey}
+use Rattle.xr_change.specs.Regroups.{HasKey}
 use Rattle.xr_change.specs.Writes.{Writes}
 use Rattle.xr_edit.specs.Edit.{IsNodeOf, with_key}
 use Rattle.xr_node.specs.Node.{key_in}
@@ -15,19 +14,17 @@ use Rattle.xr_change.proofs.mend.mend_key.Goals as goal
 
 pub block-requires : goal.block-requires
 block-requires g c =
-    let row = c.requires.child in
-    row_below g.R.Record.form c.args.over.now (half g.R.Record.form c.args.level) c.args.level row.0 c.args.c row.1 row.2
+    row_below g.R.Record.form c.args.over.now (half g.R.Record.form c.args.level) c.args.level c.requires.pre c.args.c c.requires.post c.requires.rows
 
 pub put_key-requires-clause-keyed : goal.put_key-requires-clause-keyed
 put_key-requires-clause-keyed g c =
     let form = g.R.Record.form in
-    let row = c.requires.child in
     subst (HasKey form c.args.level) (sym c.block.ensures)
-    (row_keyed form g.met.R.Record.is_form c.args.over.now (known_of c.args.over.now c.has_blocks.ensures.image c.has_blocks.ensures.blocks c.has_blocks.ensures.identified) c.args.level row.0 c.args.c row.1 row.2)
+    (row_keyed form g.met.R.Record.is_form c.args.over.now c.is_known.ensures c.args.level c.requires.pre c.args.c c.requires.post c.requires.rows)
 
 pub returns-clause-marks : goal.returns-clause-marks
 returns-clause-marks g c =
-    let writes : Writes c.args.over.now _ (c.args.n ∷ []) = block_writes c.args.over.now c.args.n c.set_key.new.block c.has_blocks.ensures.image c.requires.here in
+    let writes : Writes c.args.over.now _ (c.args.n ∷ []) = block_writes c.args.over.now c.args.n c.set_key.new.block c.is_known.ensures.all c.requires.here in
     writes.marks
 
 pub returns-clause-node : goal.returns-clause-node

@@ -2,4 +2,4 @@ use Rattle.xr_change.proofs.Written.{block_writes}
 use Rattle.xr_change.proofs.one_block.gather.Goals as goal
 
 pub returns-clause-writes : goal.returns-clause-writes
-returns-clause-writes g c = block_writes _ _ _ c.has_blocks.ensures.image c.requires.here
+returns-clause-writes g c = block_writes _ _ _ c.is_known.ensures.all c.requires.here

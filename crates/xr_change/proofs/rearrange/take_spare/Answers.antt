@@ -1,6 +1,6 @@
 use Rattle.std.proofs.Common.{◌≡◌, true, false, refl, sym, ◌∙◌}
 use Rattle.xr_blocks.specs.Overlay.{pool_size}
-use Rattle.xr_change.proofs.FreeCounts.{some_free}
+use Rattle.xr_change.proofs.Written.{some_free}
 use Rattle.xr_change.proofs.rearrange.take_spare.Goals as goal
 
 pub unreachable-requires : goal.unreachable-requires

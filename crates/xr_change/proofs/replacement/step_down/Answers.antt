@@ -1,29 +1,33 @@
-use Rattle.std.proofs.Common.{ℕ, [], ◌∷◌, sym, subst}
+use Rattle.std.proofs.Common.{ℕ, [], ◌∷◌, sym, subst, arith}
 use Rattle.std.specs.List.{Contains}
 use Rattle.xr_blocks.specs.Tree.{records_of}
-use Rattle.xr_change.proofs.Descent.{child_least}
+use Rattle.xr_change.proofs.Descent.{child_least, held_on_way, replaced_there, way_here}
 use Rattle.xr_change.proofs.InTree.{node_in, one_more}
-use Rattle.xr_change.proofs.Inserting.{some_if}
-use Rattle.xr_change.proofs.Removing.{held_on_way}
-use Rattle.xr_change.specs.Ways.{HasSome, child_of}
+use Rattle.xr_change.proofs.Stepping.{some_if}
+use Rattle.xr_change.specs.Sets.{replaced}
+use Rattle.xr_change.specs.Ways.{HasSome}
 use Rattle.xr_change.proofs.replacement.step_down.Goals as goal
 
-pub returns-clause-some : goal.returns-clause-some
-returns-clause-some g c =
+pub returns : goal.returns
+returns g c =
     let form = g.R.Record.form in
+    let laws = g.met.R.Record.is_form in
     let over = c.args.over.now in
+    let level = c.args.level in
+    let n = c.args.n in
+    let k = c.way_of-place.result in
+    let r = c.args.r.now in
     let way = c.way_of-place.ensures.way in
-    let here = node_in form over c.args.level c.args.n c.requires.here in
-    subst (HasSome form over c.args.level) (sym c.child_block-child.ensures.child)
-    (some_if form g.met.R.Record.is_form over c.args.level (child_of form over c.args.n c.way_of-place.result)
-    (child_least form over c.args.level c.args.n c.way_of-place.result here way.within))
-
-pub returns-clause-held : goal.returns-clause-held
-returns-clause-held g c =
-    let form = g.R.Record.form in
-    let over = c.args.over.now in
-    let way = c.way_of-place.ensures.way in
-    let here = node_in form over c.args.level c.args.n c.requires.here in
-    let found = subst (λ (l : ℕ). Contains (records_of form over l (c.args.n ∷ [])) c.args.r.now) (one_more c.args.level) c.requires.held in
-    subst (λ (m : ℕ). Contains (records_of form over c.args.level (m ∷ [])) c.args.r.now) (sym c.child_block-child.ensures.child)
-    (held_on_way form g.met.R.Record.is_form over c.args.level c.args.n c.way_of-place.result c.args.r.now here way.within way found)
+    let same = sym c.child_block-child.ensures.kth.is in
+    let here = node_in form over level n c.requires.here in
+    let least = child_least form over level n k here way.within in
+    let there = subst (λ (l : ℕ). Contains (records_of form over l (n ∷ [])) r) (one_more level) c.requires.held in
+    let found = held_on_way form laws over level n k here way.within r way there in
+    record {
+      way = λ new. way_here form laws over level n k here way.within 0 (replaced form.order r new) (omega arith) (omega (arith, least))
+          (replaced_there form laws over level n k here way.within r new found);
+      child = c.child_block-child.ensures.kth.is;
+      here = c.child_block-child.ensures.here;
+      some = subst (HasSome form over level) same (some_if form laws over level _ least);
+      held = subst (λ (m : ℕ). Contains (records_of form over level (m ∷ [])) r) same found;
+    }

@@ -6,7 +6,7 @@ use Rattle.xr_blocks.specs.Rows.{named_below}
 use Rattle.xr_blocks.specs.Tree.{records_of, tree_held}
 use Rattle.xr_blocks.specs.TreeBlock.{entries_in}
 use Rattle.xr_change.proofs.InTree.{in_pool, is_under, node_in, node_items}
-use Rattle.xr_change.proofs.WayLemmas.{passed, way_first, way_second}
+use Rattle.xr_change.proofs.FullWays.{passed, way_first, way_second}
 use Rattle.xr_change.specs.Ways.{IsWay}
 use Rattle.xr_lookup.proofs.DescentLemmas.{node_few}
 use Rattle.xr_lookup.specs.Cuts.{entry_is_before}
@@ -45,7 +45,8 @@ returns-then-passes_key-clause-way g c =
     (λ d. subst (λ (k : ℕ). entry_is_before form (Behind c.args.r.now) (get_or (entries_in form (block_at over c.args.n)) k d) ≡ true) next
     (passed form over c.args.n (c.args.k + 1) c.args.r.now d true c.block.result.now c.low_key_at.result.now c.passes_key.result c.block.ensures c.low_key_at.ensures.value
     c.passes_key.ensures (omega (arith, items, c.requires.within, length-entries form (block_at over c.args.n))) c.if-passes_key.true))
-    (subst (λ (k : ℕ). All (λ (x : g.row.R.Denot). form.order c.args.r.now x ≡ Less) (records_of form over c.args.level (drop k (named_below (tree_held form over) c.args.n)))) last c.requires.behind))
+    (subst (λ (k : ℕ). All (λ (x : g.row.R.Denot). form.order c.args.r.now x ≡ Less) (records_of form over c.args.level
+    (drop k (named_below (tree_held form over) c.args.n)))) last c.requires.behind))
 
 pub returns-then-passes_key-clause-second : goal.returns-then-passes_key-clause-second
 returns-then-passes_key-clause-second g c = λ d same.

@@ -1,14 +1,11 @@
-use Rattle.std.proofs.Common.{◌+◌, arith}
+use Rattle.std.proofs.Common.{arith}
 use Rattle.xr_blocks.specs.Overlay.{block_at}
 use Rattle.xr_blocks.specs.TreeBlock.{entries_in}
-use Rattle.xr_change.proofs.InTree.{is_under, node_in, node_items}
-use Rattle.xr_change.proofs.WayLemmas.{passing_is, way_at}
+use Rattle.xr_change.proofs.InTree.{node_in, node_items}
+use Rattle.xr_change.proofs.FullWays.{passing_is, way_at}
 use Rattle.xr_lookup.specs.Cuts.{entry_is_before}
 use Rattle.xr_lookup.specs.declared.cut.Cut.TheVariants.{Behind}
 use Rattle.xr_change.proofs.way.way_of.Goals as goal
-
-pub children_before-requires : goal.children_before-requires
-children_before-requires g c = is_under g.R.Record.form c.args.over.now (c.args.level + 1) c.args.n c.requires.here
 
 pub returns-clause-way : goal.returns-clause-way
 returns-clause-way g c =

@@ -11,11 +11,8 @@ use Rattle.xr_space.proofs.FreeSets.{same_span}
 use Rattle.xr_space.proofs.space.Space.are_free.Goals as goal
 
 -- what is below the place behind a run, and not below the run, is the run
-last_start : (x run : Span) → is_lt (size_order x (span (run.start + 1) run.len)) ≡ true → is_lt (size_order x run) ≡ false → x.start ≡ run.start
-last_start x run below from = grind (arith, nat_tests)
-
-last_length : (x run : Span) → is_lt (size_order x (span (run.start + 1) run.len)) ≡ true → is_lt (size_order x run) ≡ false → x.len ≡ run.len
-last_length x run below from = grind (arith, nat_tests)
+last : (x run : Span) → is_lt (size_order x (span (run.start + 1) run.len)) ≡ true → is_lt (size_order x run) ≡ false → x ≡ run
+last x run below from = same_span x run (grind (arith, nat_tests)) (grind (arith, nat_tests))
 
 pub loop-run-preserved : goal.loop-run-preserved
 loop-run-preserved c x held below =
@@ -26,6 +23,5 @@ loop-run-preserved c x held below =
     (λ (before : is_lt (size_order x c.loop-run.from) ≡ true). c.loop-run.invariant x held before)
     (λ (from : is_lt (size_order x c.loop-run.from) ≡ false).
     let first = found.next.first x held from in
-    let same : x ≡ run = same_span x run (last_start x run below first) (last_length x run below first) in
-    subst (IsFreeRun c.args.over.now c.args.self.now) (sym same) free)
+    subst (IsFreeRun c.args.over.now c.args.self.now) (sym (last x run below first)) free)
     (cases_Bool (is_lt (size_order x c.loop-run.from)))

@@ -17,7 +17,7 @@ loop-run-preserved c x held below =
     let first = found.next.first x held from in
     let start : x.start ≡ run.start = omega (arith, first, below) in
     let same : x ≡ run =
-    same_start (IsFreeRun c.args.over.now c.args.self.now) x run (are_runs c.args.over.now c.args.self.now c.requires) held found.next.held start in
+    same_start (IsFreeRun c.args.over.now c.args.self.now) x run (are_runs _ _ c.requires) held found.next.held start in
     subst (IsSized c.args.over.now c.args.self.now) (sym same) sized)
     (cases_lt x.start c.loop-run.place)
 

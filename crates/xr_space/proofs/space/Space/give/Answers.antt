@@ -1,49 +1,38 @@
 -- A run that is given back becomes one with the free runs beside it: the one behind it is taken out first, where there are two.
-use Rattle.std.proofs.Common.{◌≡◌, Option, IfSome, sym, subst, arith, ap}
+use Rattle.std.proofs.Common.{ap}
 use Rattle.std.specs.Option.{is_some}
-use Rattle.xr_blocks.specs.declared.span.Span.{Span}
-use Rattle.xr_blocks.specs.Spans.{end_of}
-use Rattle.xr_space.specs.Space.{IsFreeRun, IsLoose}
+use Rattle.xr_space.specs.Space.{IsFreeRun}
 use Rattle.xr_space.proofs.FreeSets.{are_runs}
 use Rattle.xr_space.proofs.Frames.{then_step}
-use Rattle.xr_space.proofs.Joins.{given_both, loose_both, loose_left, loose_right, with_next}
+use Rattle.xr_space.proofs.Joins.{given_both, loose_both, loose_left, loose_right}
 use Rattle.xr_space.proofs.space.Space.give.Goals as goal
 
 pub join-requires-clause-loose : goal.join-requires-clause-loose
 join-requires-clause-loose c =
-    let free = IsFreeRun c.args.over.now c.args.self.now in
-    let less = IsFreeRun c.drop_run.new.over c.drop_run.new.self in
-    let left = subst (λ (o : Option Span). IfSome o (λ x. free x × (end_of x ≡ c.args.run.start))) c.in-Some-Some.is-0 c.left_of-left.ensures.some in
-    let right = subst (λ (o : Option Span). IfSome o (λ x. free x × (x.start ≡ end_of c.args.run))) c.in-Some-Some.is-1 c.right_of-right.ensures.some in
-    subst (IsLoose less (with_next c.args.run c.in-Some-Some.next)) (sym c.in-Some-Some.is-0)
-    (loose_both free less c.args.run c.in-Some-Some.field-0-0 c.in-Some-Some.next (are_runs c.args.over.now c.args.self.now c.requires.space)
-    (are_runs c.drop_run.new.over c.drop_run.new.self c.drop_run.ensures.step.space) c.requires.good c.requires.taken left.0 left.1 right.0 right.1
-    c.drop_run.ensures.set)
+    let left = rw c.in-Some-Some.is-0 at c.left_of-left.ensures.some in
+    let right = rw c.in-Some-Some.is-1 at c.right_of-right.ensures.some in
+    rw c.in-Some-Some.is-0
+    (loose_both _ _ c.args.run _ c.in-Some-Some.next (are_runs _ _ c.requires.space) (are_runs _ _ c.drop_run.ensures.step.space) c.requires.good
+    c.requires.taken left.0 left.1 right.0 right.1 c.drop_run.ensures.set)
 
 pub join-requires-in-Some-None-clause-loose : goal.join-requires-in-Some-None-clause-loose
 join-requires-in-Some-None-clause-loose c =
-    let free = IsFreeRun c.args.over.now c.args.self.now in
-    let left = subst (λ (o : Option Span). IfSome o (λ x. free x × (end_of x ≡ c.args.run.start))) c.in-Some-None.is-0 c.left_of-left.ensures.some in
-    subst (IsLoose free c.args.run) (sym c.in-Some-None.is-0)
-    (loose_left free c.args.run c.in-Some-None.field-0-0 (are_runs c.args.over.now c.args.self.now c.requires.space) c.requires.good
-    (λ n x within held inside. c.requires.taken n within (x, held, inside)) (c.right_of-right.ensures.none (ap is_some c.in-Some-None.is-1)) left.0 left.1)
+    let left = rw c.in-Some-None.is-0 at c.left_of-left.ensures.some in
+    rw c.in-Some-None.is-0
+    (loose_left _ c.args.run _ (are_runs _ _ c.requires.space) c.requires.good (λ n x within held inside. c.requires.taken n within (x, held, inside))
+    (c.right_of-right.ensures.none (ap is_some c.in-Some-None.is-1)) left.0 left.1)
 
 pub join-requires-in-None-default-clause-loose : goal.join-requires-in-None-default-clause-loose
 join-requires-in-None-default-clause-loose c =
-    loose_right (IsFreeRun c.args.over.now c.args.self.now) c.args.run c.right_of-right.result
-    (are_runs c.args.over.now c.args.self.now c.requires.space) c.requires.good c.requires.taken
+    loose_right _ c.args.run c.right_of-right.result (are_runs _ _ c.requires.space) c.requires.good c.requires.taken
     (c.left_of-left.ensures.none (ap is_some c.in-None-default.is-0)) c.right_of-right.ensures.none c.right_of-right.ensures.some
 
 pub returns-in-Some-Some-clause-given : goal.returns-in-Some-Some-clause-given
 returns-in-Some-Some-clause-given c n =
-    let free = IsFreeRun c.args.over.now c.args.self.now in
-    let less = IsFreeRun c.drop_run.new.over c.drop_run.new.self in
-    let left = subst (λ (o : Option Span). IfSome o (λ x. free x × (end_of x ≡ c.args.run.start))) c.in-Some-Some.is-0 c.left_of-left.ensures.some in
-    let right = subst (λ (o : Option Span). IfSome o (λ x. free x × (x.start ≡ end_of c.args.run))) c.in-Some-Some.is-1 c.right_of-right.ensures.some in
-    given_both free less c.args.run c.in-Some-Some.field-0-0 c.in-Some-Some.next (are_runs c.args.over.now c.args.self.now c.requires.space)
-    (are_runs c.drop_run.new.over c.drop_run.new.self c.drop_run.ensures.step.space) c.requires.good c.requires.taken left.0 left.1 right.0 right.1
-    c.drop_run.ensures.set (IsFreeRun c.join.new.over c.join.new.self) n (c.join.ensures.given n)
+    let left = rw c.in-Some-Some.is-0 at c.left_of-left.ensures.some in
+    let right = rw c.in-Some-Some.is-1 at c.right_of-right.ensures.some in
+    given_both _ _ c.args.run _ c.in-Some-Some.next (are_runs _ _ c.requires.space) (are_runs _ _ c.drop_run.ensures.step.space) c.requires.good
+    c.requires.taken left.0 left.1 right.0 right.1 c.drop_run.ensures.set (IsFreeRun c.join.new.over c.join.new.self) n (c.join.ensures.given n)
 
 pub returns-in-Some-Some-clause-frame : goal.returns-in-Some-Some-clause-frame
-returns-in-Some-Some-clause-frame c =
-    let both = then_step _ _ _ _ _ _ 0 4 4 (omega arith) c.drop_run.ensures.step c.join.ensures.step in both.frame
+returns-in-Some-Some-clause-frame c = let both = then_step c.drop_run.ensures.step c.join.ensures.step in both.frame

@@ -17,6 +17,6 @@ returns-then-found-run c =
     let same_begin = c.if-found-run.true in (
       (λ long. subst free (same_span (block_span found) run same_begin (eqb-true found.len run.len long)) greatest.held),
       (λ held.
-          let same = same_start free (block_span found) run (are_runs c.args.over.now c.args.self.now c.requires) greatest.held held same_begin in
+          let same = same_start free (block_span found) run (are_runs _ _ c.requires) greatest.held held same_begin in
           eq-eqb found.len run.len (ap (λ (s : Span). s.len) same)),
     )

@@ -2,7 +2,6 @@
 use Rattle.std.proofs.Common.{refl, arith}
 use Rattle.xr_blocks.specs.declared.free_runs.ByBlock.{ByBlock}
 use Rattle.xr_blocks.specs.FreeRuns.{block_form, block_span, by_block}
-use Rattle.xr_space.specs.Space.{block_records}
 use Rattle.xr_space.proofs.Frames.{block_step, sizes_stay}
 use Rattle.xr_space.proofs.RunRecords.{by_block_runs, inserted_records}
 use Rattle.xr_space.proofs.RunSets.{gains}
@@ -11,7 +10,7 @@ use Rattle.xr_space.proofs.space.Space.insert_by_block.Goals as goal
 
 pub insert-requires-clause-rules : goal.insert-requires-clause-rules
 insert-requires-clause-rules c =
-    inserted_records block_form block_span by_block_runs (by_block c.args.run) (block_records c.args.over.now c.args.self.now) c.requires.space.blocks.records
+    inserted_records block_form block_span by_block_runs (by_block c.args.run) _ c.requires.space.blocks.records
     c.requires.good (λ (x : ByBlock) within. c.requires.fits (block_span x) within)
 
 pub insert-requires-clause-room : goal.insert-requires-clause-room
@@ -24,12 +23,12 @@ pub returns-clause-step : goal.returns-clause-step
 returns-clause-step c =
     let tree = c.args.self.now.by_block in
     let few = few_wanted block_form block_span by_block_runs c.args.over.now tree.root tree.level (by_block c.args.run) c.requires.space.blocks in
-    block_step c.args.over.now c.insert.new.over c.args.self.now c.insert.new.self c.requires.space c.insert.ensures.tree c.insert.ensures.frame 2
-    (omega (arith, few, c.insert.ensures.room))
+    block_step _ _ _ c.insert.new.self c.requires.space c.insert.ensures.tree c.insert.ensures.frame 2
+    (omega (arith, few, c.insert.ensures.room)) c.insert.ensures.changed
 
 pub returns-clause-set : goal.returns-clause-set
 returns-clause-set c = gains block_form block_span by_block_runs by_block (λ s. refl) _ _ c.args.run c.insert.ensures.set
 
 pub returns-clause-sizes : goal.returns-clause-sizes
 returns-clause-sizes c =
-    sizes_stay c.args.over.now c.insert.new.over c.args.self.now c.insert.new.self c.requires.space c.insert.ensures.tree c.insert.ensures.frame
+    sizes_stay _ _ _ c.insert.new.self c.requires.space c.insert.ensures.tree c.insert.ensures.frame

@@ -2,7 +2,6 @@
 use Rattle.std.proofs.Common.{refl, arith}
 use Rattle.xr_blocks.specs.declared.free_runs.BySize.{BySize}
 use Rattle.xr_blocks.specs.FreeRuns.{size_form, size_span, by_size}
-use Rattle.xr_space.specs.Space.{size_records}
 use Rattle.xr_space.proofs.Frames.{blocks_stay, size_step}
 use Rattle.xr_space.proofs.RunRecords.{by_size_runs, inserted_records}
 use Rattle.xr_space.proofs.RunSets.{gains}
@@ -11,7 +10,7 @@ use Rattle.xr_space.proofs.space.Space.insert_by_size.Goals as goal
 
 pub insert-requires-clause-rules : goal.insert-requires-clause-rules
 insert-requires-clause-rules c =
-    inserted_records size_form size_span by_size_runs (by_size c.args.run) (size_records c.args.over.now c.args.self.now) c.requires.space.sizes.records
+    inserted_records size_form size_span by_size_runs (by_size c.args.run) _ c.requires.space.sizes.records
     c.requires.good (λ (x : BySize) within. c.requires.fits (size_span x) within)
 
 pub insert-requires-clause-room : goal.insert-requires-clause-room
@@ -24,12 +23,12 @@ pub returns-clause-step : goal.returns-clause-step
 returns-clause-step c =
     let tree = c.args.self.now.by_size in
     let few = few_wanted size_form size_span by_size_runs c.args.over.now tree.root tree.level (by_size c.args.run) c.requires.space.sizes in
-    size_step c.args.over.now c.insert.new.over c.args.self.now c.insert.new.self c.requires.space c.insert.ensures.tree c.insert.ensures.frame 2
-    (omega (arith, few, c.insert.ensures.room))
+    size_step _ _ _ c.insert.new.self c.requires.space c.insert.ensures.tree c.insert.ensures.frame 2
+    (omega (arith, few, c.insert.ensures.room)) c.insert.ensures.changed
 
 pub returns-clause-set : goal.returns-clause-set
 returns-clause-set c = gains size_form size_span by_size_runs by_size (λ s. refl) _ _ c.args.run c.insert.ensures.set
 
 pub returns-clause-blocks : goal.returns-clause-blocks
 returns-clause-blocks c =
-    blocks_stay c.args.over.now c.insert.new.over c.args.self.now c.insert.new.self c.requires.space c.insert.ensures.tree c.insert.ensures.frame
+    blocks_stay _ _ _ c.insert.new.self c.requires.space c.insert.ensures.tree c.insert.ensures.frame

@@ -1,35 +1,27 @@
 -- A run is given back by itself, or as one with the free run that touches it.
-use Rattle.std.proofs.Common.{◌≡◌, ℕ, ◌+◌, true, min, sym, subst}
-use Rattle.xr_blocks.specs.Spans.{apart, span}
-use Rattle.xr_space.specs.Space.{IsFreeRun, IsLoose, Swaps}
+use Rattle.std.proofs.Common.{◌+◌}
+use Rattle.xr_blocks.specs.Spans.{span}
+use Rattle.xr_space.specs.Space.{IsFreeRun}
 use Rattle.xr_space.proofs.FreeSets.{are_runs, gained, grown}
-use Rattle.xr_space.proofs.Joins.{alone_fits, joined, joined_each, joined_fits}
+use Rattle.xr_space.proofs.Joins.{alone_fits, joined_each, joined_fits}
 use Rattle.xr_space.proofs.space.Space.join.Goals as goal
 
 pub add_run-requires-clause-fits : goal.add_run-requires-clause-fits
-add_run-requires-clause-fits c =
-    let free = IsFreeRun c.args.over.now c.args.self.now in
-    alone_fits free c.args.run (are_runs c.args.over.now c.args.self.now c.requires.space) (subst (IsLoose free c.args.run) c.in-None.is c.requires.loose)
+add_run-requires-clause-fits c = alone_fits _ c.args.run (are_runs _ _ c.requires.space) (rw c.in-None.is at c.requires.loose)
 
 pub swap_run-requires-clause-fits : goal.swap_run-requires-clause-fits
-swap_run-requires-clause-fits c x held differs =
-    let free = IsFreeRun c.args.over.now c.args.self.now in
-    let other = c.in-Some.other in
-    subst (λ (start : ℕ). apart x (span start (c.args.run.len + other.len)) ≡ true) (sym c.min.ensures)
-    (joined_fits free c.args.run other (are_runs c.args.over.now c.args.self.now c.requires.space)
-    (subst (IsLoose free c.args.run) c.in-Some.is c.requires.loose) x held differs)
+swap_run-requires-clause-fits c =
+    joined_fits _ c.args.run c.in-Some.other c.min.result c.min.ensures (are_runs _ _ c.requires.space) (rw c.in-Some.is at c.requires.loose)
 
 pub returns-in-None-clause-given : goal.returns-in-None-clause-given
 returns-in-None-clause-given c =
     gained (IsFreeRun c.args.over.now c.args.self.now) (IsFreeRun c.add_run.new.over c.add_run.new.self) c.args.run c.add_run.ensures.set
 
 pub returns-in-Some-clause-given : goal.returns-in-Some-clause-given
-returns-in-Some-clause-given c =
-    let free = IsFreeRun c.args.over.now c.args.self.now in
+returns-in-Some-clause-given c n =
+    let run = c.args.run in
     let other = c.in-Some.other in
-    let loose = subst (IsLoose free c.args.run) c.in-Some.is c.requires.loose in
+    let loose = rw c.in-Some.is at c.requires.loose in
     let beside = loose.held in
-    let after = IsFreeRun c.swap_run.new.over c.swap_run.new.self in
-    grown free after other c.args.run (joined c.args.run other) beside.0
-    (subst (λ (start : ℕ). Swaps free other (span start (c.args.run.len + other.len)) after) c.min.ensures c.swap_run.ensures.set)
-    (joined_each c.args.run other beside.1)
+    grown _ (IsFreeRun c.swap_run.new.over c.swap_run.new.self) other (span c.min.result (run.len + other.len)) (are_runs _ _ c.requires.space)
+    beside.0 c.swap_run.ensures.set n run (joined_each run other c.min.result c.min.ensures beside.1 n)

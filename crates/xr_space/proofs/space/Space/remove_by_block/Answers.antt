@@ -8,8 +8,8 @@ use Rattle.xr_space.proofs.space.Space.remove_by_block.Goals as goal
 
 pub returns-clause-step : goal.returns-clause-step
 returns-clause-step c =
-    block_step c.args.over.now c.remove.new.over c.args.self.now c.remove.new.self c.requires.space c.remove.ensures.tree c.remove.ensures.frame 0
-    (omega (arith, c.remove.ensures.room))
+    block_step _ _ _ c.remove.new.self c.requires.space c.remove.ensures.tree c.remove.ensures.frame 0
+    (omega (arith, c.remove.ensures.room)) c.remove.ensures.changed
 
 pub returns-clause-set : goal.returns-clause-set
 returns-clause-set c =
@@ -17,4 +17,4 @@ returns-clause-set c =
 
 pub returns-clause-sizes : goal.returns-clause-sizes
 returns-clause-sizes c =
-    sizes_stay c.args.over.now c.remove.new.over c.args.self.now c.remove.new.self c.requires.space c.remove.ensures.tree c.remove.ensures.frame
+    sizes_stay _ _ _ c.remove.new.self c.requires.space c.remove.ensures.tree c.remove.ensures.frame

@@ -2,7 +2,6 @@
 use Rattle.std.proofs.Common.{◌≡◌, refl, ap, arith}
 use Rattle.xr_blocks.specs.declared.free_runs.ByBlock.{ByBlock}
 use Rattle.xr_blocks.specs.FreeRuns.{block_form, block_span, by_block}
-use Rattle.xr_space.specs.Space.{block_records}
 use Rattle.xr_space.proofs.Frames.{block_step, sizes_stay}
 use Rattle.xr_space.proofs.RunRecords.{by_block_runs, replaced_records}
 use Rattle.xr_space.proofs.RunSets.{swaps}
@@ -10,15 +9,15 @@ use Rattle.xr_space.proofs.space.Space.replace_by_block.Goals as goal
 
 pub replace-requires-clause-rules : goal.replace-requires-clause-rules
 replace-requires-clause-rules c =
-    replaced_records (by_block c.args.old) (by_block c.args.new) (block_records c.args.over.now c.args.self.now) c.requires.space.blocks.records
+    replaced_records (by_block c.args.old) (by_block c.args.new) _ c.requires.space.blocks.records
     c.requires.held c.requires.good
     (λ (x : ByBlock) within other. c.requires.fits (block_span x) within (λ (same : block_span x ≡ c.args.old). other (ap by_block same)))
     c.requires.near
 
 pub returns-clause-step : goal.returns-clause-step
 returns-clause-step c =
-    block_step c.args.over.now c.replace.new.over c.args.self.now c.replace.new.self c.requires.space c.replace.ensures.tree c.replace.ensures.frame 0
-    (omega (arith, c.replace.ensures.room))
+    block_step _ _ _ c.replace.new.self c.requires.space c.replace.ensures.tree c.replace.ensures.frame 0
+    (omega (arith, c.replace.ensures.room)) c.replace.ensures.changed
 
 pub returns-clause-set : goal.returns-clause-set
 returns-clause-set c =
@@ -27,4 +26,4 @@ returns-clause-set c =
 
 pub returns-clause-sizes : goal.returns-clause-sizes
 returns-clause-sizes c =
-    sizes_stay c.args.over.now c.replace.new.over c.args.self.now c.replace.new.self c.requires.space c.replace.ensures.tree c.replace.ensures.frame
+    sizes_stay _ _ _ c.replace.new.self c.requires.space c.replace.ensures.tree c.replace.ensures.frame

@@ -17,7 +17,7 @@ pub returns-in-Some-clause-none : goal.returns-in-Some-clause-none
 returns-in-Some-clause-none c =
     let whole = c.in-Some.whole in
     let found = c.in-Some.ensures in
-    let runs = are_runs c.args.over.now c.args.self.now c.requires.space in
+    let runs = are_runs _ _ c.requires.space in
     let good = group_run whole (runs.good whole found.first.held) in (
       (λ lie. absurd cc),
       (λ none. absurd (none whole.start (whole, found.first.held, record { from = omega arith; below = omega (arith, good.1) }))),
