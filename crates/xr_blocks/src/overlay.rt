@@ -9,6 +9,7 @@ use crate::bits::{clear_bit, first_bit, has_bit, set_bit};
 use crate::marks::{copy_marked, count_marks, place_of_mark};
 use std::alloc::Global;
 use std::marker::Model;
+use std::mem;
 use xr_base::NoMemory;
 use xr_base::geometry::{
     BLOCK_BYTES, FILE_BLOCKS, FIRST_FILE_BLOCK, FIRST_GROUP_BLOCK, FIRST_INODE, GROUP_BLOCKS,
@@ -131,6 +132,25 @@ impl Overlay {
             kept,
             current,
         })
+    }
+
+    /// Takes the blocks out, and leaves an overlay of none: for one who holds them as another value while they change, and
+    /// puts them back. No memory is taken.
+    pub fn take(&mut self) -> Overlay
+        ensures { result ≡ self.old }
+    {
+        let alloc = *self.kept.allocator();
+        let none = Overlay {
+            kept: Vec::new(alloc),
+            current: Vec::new(alloc),
+            changed: Vec::new(alloc),
+            kept_free: Vec::new(alloc),
+            free: Vec::new(alloc),
+            first: self.first,
+            owner: self.owner,
+            uuid: self.uuid,
+        };
+        mem::replace(self, none)
     }
 
     /// The map of free blocks: bit `n % 8` of byte `n / 8`, the lowest first, is set exactly where block `n` is free.

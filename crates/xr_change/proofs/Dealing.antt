@@ -1,6 +1,7 @@
 -- Items that are dealt to a block and a new one, to two blocks anew, or to the first of two.
-use Rattle.std.proofs.Common.{◌≡◌, ℕ, ◌+◌, ◌-◌, ◌/◌, ◌≤◌, Option, Some, None, List, [], ◌∷◌, ◌++◌, length, take, drop, refl, sym, ap, ◌∙◌, subst, arith, take-append-drop}
+use Rattle.std.proofs.Common.{◌≡◌, ℕ, zero, suc, ◌+◌, ◌-◌, ◌/◌, ◌≤◌, Option, Some, None, List, [], ◌∷◌, ◌++◌, length, take, drop, refl, sym, ap, ◌∙◌, subst, arith, take-append-drop}
 use Rattle.std.proofs.lemmas.List.{length-append, length-drop, length-take-le}
+use Rattle.std.specs.List.{flat_map}
 use Rattle.std.specs.Option.{option_to_list}
 use Rattle.xr_blocks.proofs.Times.{times_other}
 use Rattle.xr_blocks.specs.Form.{Form, IsForm, pointer_size}
@@ -8,15 +9,18 @@ use Rattle.xr_blocks.specs.Overlay.{Blocks, block_at}
 use Rattle.xr_blocks.specs.Rows.{AreLinked, half}
 use Rattle.xr_blocks.specs.Times.{times}
 use Rattle.xr_blocks.specs.Tree.{site_of, tree_held}
-use Rattle.xr_blocks.specs.TreeBlock.{Place, Site, count_in, neighbour, tree_block}
+use Rattle.xr_blocks.specs.TreeBlock.{Place, Site, count_in, neighbour, node_items, tree_block}
 use Rattle.xr_change.specs.Alters.{AreKnown, IsWholeAt}
 use Rattle.xr_change.proofs.ItemFacts.{Gathers, IsWholeNow, block_count, block_few, block_items, block_key, block_whole, half_is, items_counted, one_flat, two_flat, whole_least, whole_now}
 use Rattle.xr_change.proofs.Neighbours.{links_read, whole_moved}
 use Rattle.xr_change.proofs.Written.{for_one, for_two, writes_then}
+use Rattle.xr_change.specs.Draft.{ReadsAs}
 use Rattle.xr_change.specs.Regroups.{Deals, HasKey, IsBlockOf, IsPlaced, IsRelinked, Item, items_in, place_of}
 use Rattle.xr_change.specs.Ways.{item_count, item_most}
 use Rattle.xr_change.specs.Writes.{Writes}
 use Rattle.xr_edit.proofs.EditLaws.{first_stretch, last_stretch, other_stretch, whole_stretch}
+use Rattle.xr_edit.specs.Edit.{sealed}
+use Rattle.xr_edit.specs.SealLaws.{sealed_block}
 use Rattle.xr_lookup.specs.UnderLaws.{half_some}
 use Rattle.xr_node.specs.BlockTest.{right_in}
 
@@ -32,6 +36,15 @@ relinked_between form a b y z q old new same site stays relinked = λ place coun
     let now : block_at b q ≡ tree_block form (site_of b) place count items =
     same ∙ was ∙ ap (λ (s : Site). tree_block form s place count items) (sym site) in
     stays ∙ relinked place count items is left now ∙ ap (λ (s : Site). tree_block form s (record place { left = Some new }) count items) site
+
+-- a whole block has its checksum
+block_sealed : {X : Type 0} (form : Form X) (level : ℕ) (site : Site) (place : Place) (items : List (Item X level)) (bytes : List ℕ)
+    → IsBlockOf form level site place items bytes → sealed form bytes ≡ bytes
+unfolding IsBlockOf
+block_sealed form zero site place items bytes is =
+    ap (sealed form) is.whole ∙ sealed_block form site place (length items) (flat_map form.bytes_of items) is.identified ∙ sym is.whole
+block_sealed form (suc level) site place items bytes is =
+    ap (sealed form) is.whole ∙ sealed_block form site place (length items) (node_items form items) is.identified ∙ sym is.whole
 
 module _ {X : Type 0} (form : Form X) (laws : IsForm form) (a : Blocks) (known : AreKnown a) (level : ℕ) where
   abbrev Of : Place → List (Item X level) → List ℕ → Type 0
@@ -52,13 +65,18 @@ module _ {X : Type 0} (form : Form X) (laws : IsForm form) (a : Blocks) (known :
         omega (arith, counted, block_few form level (site_of a) (place_of form a level c) (items_of c) (block_at a c) of),
       )
 
-  -- the same of a copy
-  pub copy_count : (c : ℕ) (block : List ℕ) → block ≡ block_at a c → IsPlaced form a level c
+  -- the same of a copy, which may have no checksum
+  pub copy_count : (c : ℕ) (block : List ℕ) → ReadsAs form block (block_at a c) → IsPlaced form a level c
       → (count_in block ≡ item_count form a level c) × (count_in block ≤ item_most form level)
-  copy_count c block same placed =
+  copy_count c block reads placed =
       let size = placed_count c placed in
-      let counted : count_in block ≡ item_count form a level c = ap count_in same ∙ size.0 in
+      let counted : count_in block ≡ item_count form a level c = reads.count ∙ size.0 in
       (counted, omega (arith, counted, size.1))
+
+  -- a copy with its checksum is the block, which has its own
+  pub copy_sealed : (c : ℕ) (block : List ℕ) → ReadsAs form block (block_at a c) → IsPlaced form a level c → sealed form block ≡ block_at a c
+  copy_sealed c block reads placed =
+      reads.sealed ∙ block_sealed form level (site_of a) (place_of form a level c) (items_of c) (block_at a c) (placed_block c placed)
 
   placed_least : (c : ℕ) → IsPlaced form a level c → half form level ≤ item_count form a level c
   placed_least c placed = whole_least form a level (half form level) (place_of form a level c) placed.whole

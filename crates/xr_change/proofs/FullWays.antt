@@ -23,7 +23,9 @@ use Rattle.xr_blocks.specs.TreeBlock.{Entry, count_in, entries_in}
 use Rattle.xr_change.proofs.Descent.{child_in_tree, child_least, names_around}
 use Rattle.xr_change.proofs.InTree.{is_under}
 use Rattle.xr_change.proofs.ItemFacts.{child_at}
+use Rattle.xr_change.proofs.Reading.{read_low_key}
 use Rattle.xr_change.proofs.RowBlocks.{HoldSame, times_row, times_under, same_or_other}
+use Rattle.xr_change.specs.Draft.{ReadsAs}
 use Rattle.xr_change.specs.Ways.{IsInTree, IsWay, passing, child_of, full_on_way, is_full, item_count, item_most, way_place}
 use Rattle.xr_lookup.proofs.DescentLemmas.{all_ascend, begin, falls, lower_too, node_parted, leaf_is, node_few}
 use Rattle.xr_lookup.proofs.PartLemmas.{Begins, all_fail, cut_at, pairs_before, pairs_right}
@@ -153,12 +155,12 @@ module _ {X : Type 0} (form : Form X) (laws : IsForm form) (b : Blocks) (level n
   }
 
 -- whether a child begins in front of a record, as its key is read
-pub passed : {X : Type 0} (form : Form X) (b : Blocks) (n k : ℕ) (r : X) (d : Entry) (is : Bool) (bytes low : List ℕ) (found : Bool) → bytes ≡ block_at b n
+pub passed : {X : Type 0} (form : Form X) (b : Blocks) (n k : ℕ) (r : X) (d : Entry) (is : Bool) (bytes low : List ℕ) (found : Bool) → ReadsAs form bytes (block_at b n)
     → low ≡ low_key_in form k bytes → found ≡ key_is_before form (Behind r) low → k < count_in (block_at b n) → found ≡ is
     → entry_is_before form (Behind r) (get_or (entries_in form (block_at b n)) k d) ≡ is
-passed form b n k r d is bytes low found block read test within same =
+passed form b n k r d is bytes low found reads read test within same =
     ap (entry_is_before form (Behind r)) (entry_read form (block_at b n) k d within)
-    ∙ ap (key_is_before form (Behind r)) (sym (read ∙ ap (low_key_in form k) block)) ∙ sym test ∙ same
+    ∙ ap (key_is_before form (Behind r)) (sym (read ∙ read_low_key form bytes (block_at b n) reads k)) ∙ sym test ∙ same
 
 if_most : (test : Bool) (m n : ℕ) → m ≤ n → (if test then suc m else 0) ≤ suc n
 if_most true m n few = omega (arith, few)
@@ -238,18 +240,18 @@ full_none count most less = grind (arith, nat_tests)
 
 -- whether a block is full, as its count is read
 pub full_leaf : {X : Type 0} (form : Form X) (laws : IsForm form) (b : Blocks) (level n : ℕ) → IsInTree form b level n → level ≡ 0 → (count most : ℕ) (bytes : List ℕ)
-    → count ≡ count_in bytes → bytes ≡ block_at b n → form.leaf_max ≡ most → (count == most) ≡ is_full form b level n
-full_leaf form laws b level n here leaf count most bytes read block same =
+    → count ≡ count_in bytes → ReadsAs form bytes (block_at b n) → form.leaf_max ≡ most → (count == most) ≡ is_full form b level n
+full_leaf form laws b level n here leaf count most bytes read reads same =
     let at_zero : IsInTree form b zero n = subst (λ (l : ℕ). IsInTree form b l n) leaf here in
     let whole = leaf_is form laws b n (is_under form b zero n at_zero) in
-    let counted : count ≡ item_count form b zero n = read ∙ ap count_in block ∙ sym whole.counted in
+    let counted : count ≡ item_count form b zero n = read ∙ reads.count ∙ sym whole.counted in
     ap (λ (x : ℕ). x == most) counted ∙ ap (λ (x : ℕ). item_count form b zero n == x) (sym same) ∙ ap (λ (l : ℕ). is_full form b l n) (sym leaf)
 
 pub full_node : {X : Type 0} (form : Form X) (b : Blocks) (level n : ℕ) → (level ≡ 0 → ⊥) → (count most : ℕ) (bytes : List ℕ)
-    → count ≡ count_in bytes → bytes ≡ block_at b n → form.node_max ≡ most → (count == most) ≡ is_full form b level n
-full_node form b zero n node count most bytes read block same = absurd (node refl)
-full_node form b (suc level) n node count most bytes read block same =
-    let counted : count ≡ item_count form b (suc level) n = read ∙ ap count_in block ∙ sym (length-entries form (block_at b n)) in
+    → count ≡ count_in bytes → ReadsAs form bytes (block_at b n) → form.node_max ≡ most → (count == most) ≡ is_full form b level n
+full_node form b zero n node count most bytes read reads same = absurd (node refl)
+full_node form b (suc level) n node count most bytes read reads same =
+    let counted : count ≡ item_count form b (suc level) n = read ∙ reads.count ∙ sym (length-entries form (block_at b n)) in
     ap (λ (x : ℕ). x == most) counted ∙ ap (λ (x : ℕ). item_count form b (suc level) n == x) (sym same)
 
 pub full_if : {X : Type 0} (form : Form X) (b : Blocks) (level n : ℕ) → is_full form b level n ≡ true → item_count form b level n ≡ item_most form level

@@ -13,17 +13,25 @@ use Rattle.xr_blocks.specs.Rows.{AreRowsOf, IsWholeLeaf, leaves_from}
 use Rattle.xr_blocks.specs.Times.{times}
 use Rattle.xr_blocks.specs.Tree.{blocks_of, site_of, tree_held, records_of}
 use Rattle.xr_blocks.specs.TreeBlock.{Place, Site, leaf_bytes, records_in, count_in, entries_in}
+use Rattle.xr_change.proofs.Editing.{leaf_read}
 use Rattle.xr_change.proofs.ItemFacts.{row_whole, whole_leaf}
+use Rattle.xr_change.proofs.Reading.{read_records}
 use Rattle.xr_change.proofs.Written.{block_writes, same_count, written_only}
 use Rattle.xr_change.proofs.RowBlocks.{holds_same, not_alone, times_leaves, times_parts, times_append, times_row, same_or_other}
 use Rattle.xr_change.proofs.SetLemmas.{IsPlaceFor, stands_at}
 use Rattle.xr_change.specs.Alters.{Alters, AreRowsIn, AreKnown}
 use Rattle.xr_change.specs.Changes.{Changes}
+use Rattle.xr_change.specs.Draft.{ReadsAs}
 use Rattle.xr_change.specs.Regroups.{place_of}
 use Rattle.xr_change.specs.Ways.{IsInTree, item_count}
 use Rattle.xr_change.specs.Writes.{WritesOnly, Writes}
 use Rattle.xr_edit.proofs.EditLaws.{leaf_count, leaf_of_whole, leaf_records}
-use Rattle.xr_edit.specs.Edit.{IsLeafOf}
+use Rattle.xr_edit.specs.Edit.{IsLeafOf, sealed}
+use Rattle.xr_lookup.proofs.DescentLemmas.{leaf_is, leaf_parted}
+use Rattle.xr_lookup.specs.Cuts.{IsParted, IsPlaceOf, is_before}
+use Rattle.xr_lookup.specs.Leaf.{IsLeaf}
+use Rattle.xr_lookup.specs.declared.cut.Cut.{Cut}
+use Rattle.xr_lookup.specs.declared.cut.Cut.TheVariants.{Before}
 use Rattle.xr_lookup.specs.Under.{IsUnder}
 
 module _ {X : Type 0} (form : Form X) (a b : Blocks) (floor n : ℕ) (rs : List X) (only : WritesOnly a b n)
@@ -109,9 +117,24 @@ module _ {X : Type 0} (form : Form X) (laws : IsForm form) (b : Blocks) (known :
       (row_whole form laws b known here.least zero (here.pre ++ n ∷ here.post) here.rows n (in_row form b zero n here)) in
       (place_of form b zero n, leaf_here (place_of form b zero n) whole.whole whole.most_items)
 
-  pub leaf_read : (old : List ℕ) → old ≡ block_at b n → (count_in old ≡ length held) × (count_in old ≤ form.leaf_max)
-  leaf_read old same =
-      let count = ap count_in same ∙ leaf_count form laws (site_of b) own_place.0 (block_at b n) held own_place.1 in (count, omega (arith, count, own_place.1.few))
+  pub leaf_counts : (old : List ℕ) → ReadsAs form old (block_at b n) → (count_in old ≡ length held) × (count_in old ≤ form.leaf_max)
+  leaf_counts old reads =
+      let count = reads.count ∙ leaf_count form laws (site_of b) own_place.0 (block_at b n) held own_place.1 in (count, omega (arith, count, own_place.1.few))
+
+  -- where a record is looked for, and where it is found
+  pub leaf_sought : (old : List ℕ) → ReadsAs form old (block_at b n) → (cut : Cut X) → IsLeaf form old × IsParted (is_before form cut) (records_in form old)
+  leaf_sought old reads cut =
+      let under = is_under form b zero n here in
+      let is = leaf_is form laws b n under in
+      let same = read_records form old (block_at b n) reads in (
+        record { counted = ap length same ∙ is.counted ∙ sym reads.count; few = omega (arith, reads.count, is.few) },
+        subst (IsParted (is_before form cut)) (sym same) (leaf_parted form laws b n under cut),
+      )
+
+  pub leaf_found : (old : List ℕ) → ReadsAs form old (block_at b n) → (r : X) (k : ℕ) → IsPlaceOf (is_before form (Before r)) (records_in form old) k
+      → IsPlaceFor form.order r held k
+  leaf_found old reads r k place =
+      subst (λ (rs : List X). IsPlaceOf (is_before form (Before r)) rs k) (read_records form old (block_at b n) reads) place
 
   -- a record of the leaf stands where the first does that isn't below it
   pub leaf_stands : (r : X) (k : ℕ) → IsPlaceFor form.order r held k → Contains (records_of form b zero (n ∷ [])) r
@@ -120,8 +143,8 @@ module _ {X : Type 0} (form : Form X) (laws : IsForm form) (b : Blocks) (known :
       stands_at form.order laws.total r held (subst (AllPairs (λ (x y : X). form.order x y ≡ Less)) (leaf_alone form b n) here.ascend) k place
       (subst (λ (xs : List X). Contains xs r) (leaf_alone form b n) found)
 
-  module _ (old bytes : List ℕ) (same : old ≡ block_at b n) (records : List X) (made : (site : Site) (place : Place)
-      → IsLeafOf form site place held old → IsLeafOf form site place records bytes) where
+  module _ (old bytes : List ℕ) (reads : ReadsAs form old (block_at b n)) (records : List X) (made : (site : Site) (place : Place)
+      → IsLeafOf form site place held (sealed form old) → IsLeafOf form site place records bytes) where
     abbrev after : Blocks
     after = with_block b n bytes
 
@@ -132,7 +155,7 @@ module _ {X : Type 0} (form : Form X) (laws : IsForm form) (b : Blocks) (known :
     writes = block_writes b n bytes known.all (in_pool form b zero n here)
 
     now : (place : Place) → IsLeafOf form (site_of b) place held (block_at b n) → IsLeafOf form (site_of b) place records bytes
-    now place was = made (site_of b) place (subst (IsLeafOf form (site_of b) place held) (sym same) was)
+    now place was = made (site_of b) place (leaf_read form old (block_at b n) reads (site_of b) place held was)
 
     holds : records_in form (block_at after n) ≡ records
     holds = ap (records_in form) written ∙ leaf_records form laws (site_of b) own_place.0 bytes records (now own_place.0 own_place.1)

@@ -9,7 +9,7 @@ use Rattle.xr_blocks.specs.Rows.{Held, IsWholeLeaf, IsWholeNode, half, held_in, 
 use Rattle.xr_blocks.specs.Times.{times}
 use Rattle.xr_blocks.specs.Tree.{site_of, tree_held}
 use Rattle.xr_blocks.specs.TreeBlock.{Entry, Place, Site, entries_in, leaf_bytes, node_bytes, records_in, count_in}
-use Rattle.xr_change.proofs.Grouping.{row_linked, items_same, whole_same}
+use Rattle.xr_change.proofs.Grouping.{row_linked, items_same}
 use Rattle.xr_change.proofs.Neighbours.{links_read, whole_moved}
 use Rattle.xr_change.proofs.NodeContext.{linked_stays}
 use Rattle.xr_change.proofs.RowBlocks.{times_row, holds_same, key_same}
@@ -195,9 +195,6 @@ module _ {X : Type 0} (form : Form X) (laws : IsForm form) where
 
 -- what a block was made stays where it isn't written again
 module _ {X : Type 0} (form : Form X) (a b z : Blocks) (level : ℕ) where
-  pub whole_later : (place : Place) → block_at z place.number ≡ block_at b place.number → IsWholeNow form a b level place → IsWholeNow form a z level place
-  whole_later place same whole = whole_same form b z (site_of a) (half form level) level place same whole
-
   pub items_later : (old new : List ℕ) → HaveSameItems form a b level old new → ((m : ℕ) → 1 ≤ times m new → block_at z m ≡ block_at b m) → HaveSameItems form a z level old new
   items_later old new items same = items_same form b z level new (λ m there. holds_same form b z m (same m there)) ∙ items
 

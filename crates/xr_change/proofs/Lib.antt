@@ -1,5 +1,6 @@
 pub mod Dealing
 pub mod Descent
+pub mod Editing
 pub mod FullWays
 pub mod Grouping
 pub mod InTree
@@ -9,8 +10,10 @@ pub mod NodeChanges
 pub mod NodeContext
 pub mod ParentFacts
 pub mod Rearranging
+pub mod Reading
 pub mod RegroupLemmas
 pub mod Rooming
+pub mod Sealing
 pub mod RowBlocks
 pub mod SetLemmas
 pub mod Sparing

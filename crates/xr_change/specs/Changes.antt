@@ -2,9 +2,10 @@
 use Rattle.std.specs.Prelude.{◌≡◌, ℕ, suc, ◌+◌, ◌*◌, ◌<◌, ◌≤◌, true, List, [], ◌∷◌, ◌++◌, length, take, drop}
 use Rattle.std.specs.List.{Contains}
 use Rattle.xr_blocks.specs.Form.{Form}
+use Rattle.xr_blocks.specs.Frame.{ChangesOnly}
 use Rattle.xr_blocks.specs.Overlay.{Blocks, block_at, changed_blocks, free_count, pool_size}
 use Rattle.xr_blocks.specs.Rows.{half, named_below}
-use Rattle.xr_blocks.specs.Tree.{records_of, tree_held}
+use Rattle.xr_blocks.specs.Tree.{IsTreeIn, records_of, tree_blocks, tree_held, tree_records}
 use Rattle.xr_blocks.specs.TreeBlock.{count_in, entries_in}
 use Rattle.xr_change.specs.Alters.{Alters, AreRowsIn}
 use Rattle.xr_change.specs.Regroups.{IsSameUnder}
@@ -54,6 +55,13 @@ pub record HasSpare {X : Type 0} (form : Form X) (a s : Blocks) (level n : ℕ) 
   pub way : HasWay form a s 1 level n k (removed form.order r)
   pub held : Contains (records_of form s level (child_of form s n k ∷ [])) r
   pub free : free_count a ≤ free_count s
+
+-- the tree below a root is another one with the records that the change makes of those before
+pub record Becomes {X : Type 0} (form : Form X) (a b : Blocks) (root level root' level' : ℕ) (change : List X → List X) : Type 0 where
+  pub tree : IsTreeIn form b root' level'
+  pub set : tree_records form b root' level' ≡ change (tree_records form a root level)
+  pub frame : ChangesOnly a (tree_blocks form a root level) b (tree_blocks form b root' level')
+  pub changed : length (changed_blocks b) ≤ length (changed_blocks a) + (3 * (level + 1) + 1)
 
 -- a node whose k-th child, c, has its key mended
 pub record MayMend {X : Type 0} (form : Form X) (b : Blocks) (level n k c : ℕ) : Type 0 where

@@ -1,5 +1,7 @@
 pub mod Alters
 pub mod Changes
+pub mod Draft
+pub mod Lending
 pub mod Lowers
 pub mod Regroups
 pub mod Sets

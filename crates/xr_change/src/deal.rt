@@ -7,9 +7,9 @@ ghost use Rattle.xr_change.specs.Regroups.{Deals, IsPlaced};
 ghost use Rattle.xr_change.specs.Ways.{item_count, item_most};
 ghost use Rattle.xr_node.specs.BlockTest.{left_in, right_in};
 
+use crate::draft::Draft;
 use crate::one_block::{copy_of, gather, pool_number, relink};
-use crate::way::is_known;
-use xr_blocks::{Block, Overlay, Record};
+use xr_blocks::{Block, Record};
 use xr_node::neighbours::{left_of, right_of};
 use xr_node::read::count_of;
 
@@ -27,22 +27,22 @@ fn neighbours<R: Record>(block: &Block) -> (Option<u32>, Option<u32>)
 }
 
 /// Deals the items of a full block to itself and to a new one behind it.
-pub(crate) fn split_items<R: Record>(over: &mut Overlay, level: u32, c: u32, m: u32)
+pub(crate) fn split_items<R: Record>(draft: &mut Draft<R>, level: u32, c: u32, m: u32)
     requires level { level < 2 ^ 16 }
-    requires placed { IsPlaced R.form over.old level c }
-    requires full { item_count R.form over.old level c ≡ item_most R.form level }
-    requires within { m < pool_size over.old }
+    requires placed { IsPlaced R.form draft.old level c }
+    requires full { item_count R.form draft.old level c ≡ item_most R.form level }
+    requires within { m < pool_size draft.old }
     requires apart { c ≡ m → ⊥ }
-    requires beside { (q : ℕ) → right_in R.form (block_at over.old c) ≡ Some q → q ≡ m → ⊥ }
-    ensures { Deals R.form over.old over.new level (c ∷ []) (c ∷ m ∷ []) (c ∷ m ∷ option_to_list (right_in R.form (block_at over.old c))) c m }
+    requires beside { (q : ℕ) → right_in R.form (block_at draft.old c) ≡ Some q → q ≡ m → ⊥ }
+    ensures { Deals R.form draft.old draft.new level (c ∷ []) (c ∷ m ∷ []) (c ∷ m ∷ option_to_list (right_in R.form (block_at draft.old c))) c m }
 {
-    is_known(over);
-    let block = copy_of(over, c);
+    draft.is_known();
+    let block = copy_of(draft, c);
     let count = count_of(&block);
     let (left, right) = neighbours::<R>(&block);
-    gather::<R>(over, c, level, left, Some(m), &block, &block, 0, count / 2);
+    gather::<R>(draft, c, level, left, Some(m), &block, &block, 0, count / 2);
     gather::<R>(
-        over,
+        draft,
         m,
         level,
         Some(c),
@@ -52,45 +52,45 @@ pub(crate) fn split_items<R: Record>(over: &mut Overlay, level: u32, c: u32, m: 
         count / 2,
         count,
     );
-    relink::<R>(over, right, m);
+    relink::<R>(draft, right, m);
 }
 
 /// Deals the items of two neighbours anew, so that the left one has so many.
-pub(crate) fn share_items<R: Record>(over: &mut Overlay, level: u32, c: u32, d: u32, count: usize)
+pub(crate) fn share_items<R: Record>(draft: &mut Draft<R>, level: u32, c: u32, d: u32, count: usize)
     requires level { level < 2 ^ 16 }
-    requires placed { IsPlaced R.form over.old level c × IsPlaced R.form over.old level d }
+    requires placed { IsPlaced R.form draft.old level c × IsPlaced R.form draft.old level d }
     requires apart { c ≡ d → ⊥ }
-    requires beside { (q : ℕ) → right_in R.form (block_at over.old d) ≡ Some q → q ≡ c → ⊥ }
+    requires beside { (q : ℕ) → right_in R.form (block_at draft.old d) ≡ Some q → q ≡ c → ⊥ }
     requires low { (half R.form level ≤ count) × (count ≤ item_most R.form level) }
-    requires high { half R.form level + count ≤ item_count R.form over.old level c + item_count R.form over.old level d }
-    requires high_most { item_count R.form over.old level c + item_count R.form over.old level d ≤ item_most R.form level + count }
-    ensures shares { Deals R.form over.old over.new level (c ∷ d ∷ []) (c ∷ d ∷ []) (c ∷ d ∷ []) d d }
-    ensures count { item_count R.form over.new level c ≡ count }
+    requires high { half R.form level + count ≤ item_count R.form draft.old level c + item_count R.form draft.old level d }
+    requires high_most { item_count R.form draft.old level c + item_count R.form draft.old level d ≤ item_most R.form level + count }
+    ensures shares { Deals R.form draft.old draft.new level (c ∷ d ∷ []) (c ∷ d ∷ []) (c ∷ d ∷ []) d d }
+    ensures count { item_count R.form draft.new level c ≡ count }
 {
-    is_known(over);
-    let first = copy_of(over, c);
-    let second = copy_of(over, d);
+    draft.is_known();
+    let first = copy_of(draft, c);
+    let second = copy_of(draft, d);
     let total = count_of(&first) + count_of(&second);
     let (left, right) = neighbours::<R>(&first);
-    gather::<R>(over, c, level, left, right, &first, &second, 0, count);
+    gather::<R>(draft, c, level, left, right, &first, &second, 0, count);
     let (left, right) = neighbours::<R>(&second);
-    gather::<R>(over, d, level, left, right, &first, &second, count, total);
+    gather::<R>(draft, d, level, left, right, &first, &second, count, total);
 }
 
 /// Gives the items of a block to the one before it, which takes its place before the block behind it.
-pub(crate) fn merge_items<R: Record>(over: &mut Overlay, level: u32, c: u32, d: u32)
+pub(crate) fn merge_items<R: Record>(draft: &mut Draft<R>, level: u32, c: u32, d: u32)
     requires level { level < 2 ^ 16 }
-    requires placed { IsPlaced R.form over.old level c × IsPlaced R.form over.old level d }
-    requires beside { (q : ℕ) → right_in R.form (block_at over.old d) ≡ Some q → q ≡ c → ⊥ }
-    requires fits { item_count R.form over.old level c + item_count R.form over.old level d ≤ item_most R.form level }
-    ensures { Deals R.form over.old over.new level (c ∷ d ∷ []) (c ∷ []) (c ∷ option_to_list (right_in R.form (block_at over.old d))) d c }
+    requires placed { IsPlaced R.form draft.old level c × IsPlaced R.form draft.old level d }
+    requires beside { (q : ℕ) → right_in R.form (block_at draft.old d) ≡ Some q → q ≡ c → ⊥ }
+    requires fits { item_count R.form draft.old level c + item_count R.form draft.old level d ≤ item_most R.form level }
+    ensures { Deals R.form draft.old draft.new level (c ∷ d ∷ []) (c ∷ []) (c ∷ option_to_list (right_in R.form (block_at draft.old d))) d c }
 {
-    is_known(over);
-    let first = copy_of(over, c);
-    let second = copy_of(over, d);
+    draft.is_known();
+    let first = copy_of(draft, c);
+    let second = copy_of(draft, d);
     let total = count_of(&first) + count_of(&second);
     let (left, _) = neighbours::<R>(&first);
     let (_, right) = neighbours::<R>(&second);
-    gather::<R>(over, c, level, left, right, &first, &second, 0, total);
-    relink::<R>(over, right, c);
+    gather::<R>(draft, c, level, left, right, &first, &second, 0, total);
+    relink::<R>(draft, right, c);
 }

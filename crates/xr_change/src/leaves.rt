@@ -5,46 +5,43 @@ ghost use Rattle.xr_blocks.specs.Tree.{records_of};
 ghost use Rattle.xr_change.specs.Changes.{Inserts, Removes, Replaces};
 ghost use Rattle.xr_change.specs.Ways.{IsInTree, item_count};
 
-use crate::way::is_known;
-use xr_blocks::{Overlay, Record};
+use crate::draft::Draft;
+use xr_blocks::Record;
 use xr_edit::{cut_record, put_record, set_record};
 use xr_lookup::cut::Cut;
-use xr_lookup::steps::records_before;
+use xr_lookup::leaf::place_of;
 
 /// Puts a record into a leaf that isn't full.
-#[tactic(auto, using(crate::proofs::InTree::is_under))]
-pub(crate) fn insert_in_leaf<R: Record>(over: &mut Overlay, n: u32, r: &R)
-    requires here { IsInTree R.form over.old 0 n }
-    requires room { item_count R.form over.old 0 n < R.form.leaf_max }
+pub(crate) fn insert_in_leaf<R: Record>(draft: &mut Draft<R>, n: u32, r: &R)
+    requires here { IsInTree R.form draft.old 0 n }
+    requires room { item_count R.form draft.old 0 n < R.form.leaf_max }
     requires valid { IsTrue (R.form.is_valid r.now) }
-    ensures { Inserts R.form over.old over.new 0 n r.now }
+    ensures { Inserts R.form draft.old draft.new 0 n r.now }
 {
-    is_known(over);
-    let k = records_before(over, n, &Cut::Before(*r));
-    put_record(over.block_mut(n), k, r);
+    draft.is_known();
+    let k = place_of(draft.block(n), &Cut::Before(*r));
+    put_record(draft.block_mut(n), k, r);
 }
 
 /// Cuts a record out of a leaf.
-#[tactic(auto, using(crate::proofs::InTree::is_under))]
-pub(crate) fn remove_from_leaf<R: Record>(over: &mut Overlay, n: u32, r: &R)
-    requires here { IsInTree R.form over.old 0 n }
-    requires held { Contains (records_of R.form over.old 0 (n ∷ [])) r.now }
-    ensures { Removes R.form over.old over.new 0 n r.now }
+pub(crate) fn remove_from_leaf<R: Record>(draft: &mut Draft<R>, n: u32, r: &R)
+    requires here { IsInTree R.form draft.old 0 n }
+    requires held { Contains (records_of R.form draft.old 0 (n ∷ [])) r.now }
+    ensures { Removes R.form draft.old draft.new 0 n r.now }
 {
-    is_known(over);
-    let k = records_before(over, n, &Cut::Before(*r));
-    cut_record::<R>(over.block_mut(n), k);
+    draft.is_known();
+    let k = place_of(draft.block(n), &Cut::Before(*r));
+    cut_record::<R>(draft.block_mut(n), k);
 }
 
 /// Writes a record over another one of a leaf.
-#[tactic(auto, using(crate::proofs::InTree::is_under))]
-pub(crate) fn replace_in_leaf<R: Record>(over: &mut Overlay, n: u32, old: &R, new: &R)
-    requires here { IsInTree R.form over.old 0 n }
-    requires held { Contains (records_of R.form over.old 0 (n ∷ [])) old.now }
+pub(crate) fn replace_in_leaf<R: Record>(draft: &mut Draft<R>, n: u32, old: &R, new: &R)
+    requires here { IsInTree R.form draft.old 0 n }
+    requires held { Contains (records_of R.form draft.old 0 (n ∷ [])) old.now }
     requires valid { IsTrue (R.form.is_valid new.now) }
-    ensures { Replaces R.form over.old over.new 0 n old.now new.now }
+    ensures { Replaces R.form draft.old draft.new 0 n old.now new.now }
 {
-    is_known(over);
-    let k = records_before(over, n, &Cut::Before(*old));
-    set_record(over.block_mut(n), k, new);
+    draft.is_known();
+    let k = place_of(draft.block(n), &Cut::Before(*old));
+    set_record(draft.block_mut(n), k, new);
 }

@@ -3,6 +3,7 @@
 
 mod cut;
 mod deal;
+mod draft;
 mod grow;
 mod insertion;
 mod leaves;
@@ -15,7 +16,7 @@ mod room;
 mod root;
 mod spare;
 mod way;
+mod whole;
 
-pub use cut::{remove, replace};
-pub use grow::insert;
 pub use root::Root;
+pub use whole::{insert, remove, replace};

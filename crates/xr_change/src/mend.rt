@@ -8,29 +8,29 @@ ghost use Rattle.xr_change.specs.Changes.{MayMend};
 ghost use Rattle.xr_change.specs.Writes.{MarksAtMost, WritesOnly, unmarked};
 ghost use Rattle.xr_edit.specs.Edit.{IsNodeOf, with_key};
 
+use crate::draft::Draft;
 use crate::one_block::put_key;
-use crate::way::is_known;
-use xr_blocks::{Overlay, Record};
+use xr_blocks::Record;
 use xr_edit::set_key;
 use xr_node::key_test::{KEY_ROOM, is_same, key_fits};
 use xr_node::read::key_at;
 
 /// Gives a child of a node the key that its block has now. Nothing is written where it has it already.
-pub(crate) fn mend_key<R: Record>(over: &mut Overlay, n: u32, level: u32, k: usize, c: u32)
-    requires { MayMend R.form over.old level n k c }
-    ensures only { WritesOnly over.old over.new n }
-    ensures free { over.new.free ≡ over.old.free }
-    ensures marks { MarksAtMost over.old over.new (unmarked over.old (n ∷ [])) }
-    ensures node { (site : Site) (place : Place) (entries : List Entry) → IsNodeOf R.form site place entries (block_at over.old n)
-        → IsNodeOf R.form site place (with_key k (key_held R.form (tree_held R.form over.old) level c) entries) (block_at over.new n) }
+pub(crate) fn mend_key<R: Record>(draft: &mut Draft<R>, n: u32, level: u32, k: usize, c: u32)
+    requires { MayMend R.form draft.old level n k c }
+    ensures only { WritesOnly draft.old draft.new n }
+    ensures free { draft.new.free ≡ draft.old.free }
+    ensures marks { MarksAtMost draft.old draft.new (unmarked draft.old (n ∷ [])) }
+    ensures node { (site : Site) (place : Place) (entries : List Entry) → IsNodeOf R.form site place entries (block_at draft.old n)
+        → IsNodeOf R.form site place (with_key k (key_held R.form (tree_held R.form draft.old) level c) entries) (block_at draft.new n) }
 {
-    is_known(over);
+    draft.is_known();
     key_fits::<R>();
     let mut room = [0; KEY_ROOM];
     let key = &mut room[..R::LOW + R::HIGH];
-    put_key::<R>(over.block(c), level, key);
-    if is_same(key_at::<R>(over.block(n), k), key) {
+    put_key::<R>(draft.block(c), level, key);
+    if is_same(key_at::<R>(draft.block(n), k), key) {
         return;
     }
-    set_key::<R>(over.block_mut(n), k, key);
+    set_key::<R>(draft.block_mut(n), k, key);
 }

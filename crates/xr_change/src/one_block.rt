@@ -7,25 +7,26 @@ ghost use Rattle.xr_blocks.specs.Overlay.{block_at, pool_size};
 ghost use Rattle.xr_blocks.specs.Rows.{held_in, key_held};
 ghost use Rattle.xr_blocks.specs.Tree.{site_of, tree_held};
 ghost use Rattle.xr_blocks.specs.TreeBlock.{Entry, Place, Site, count_in};
+ghost use Rattle.xr_change.specs.Draft.{ReadsAs};
 ghost use Rattle.xr_change.specs.Regroups.{HasKey, IsBlockOf, IsRelinked, Item, entry_for};
 ghost use Rattle.xr_change.specs.Ways.{item_most};
 ghost use Rattle.xr_change.specs.Writes.{Writes};
-ghost use Rattle.xr_edit.specs.Edit.{IsHeader, IsNodeOf, with_key};
+ghost use Rattle.xr_edit.specs.Edit.{IsHeader, IsNodeOf, sealed, with_key};
 
-use crate::way::is_known;
-use xr_blocks::{Block, Overlay, Record};
+use crate::draft::Draft;
+use xr_blocks::{Block, Record};
 use xr_edit::{
     Header, cut_entry, gather_leaf, gather_node, put_entry, put_key_of_leaf, put_key_of_node,
     set_key, set_left,
 };
 use xr_node::key_test::{KEY_ROOM, key_fits};
 
-/// A copy of a block.
-pub(crate) fn copy_of(over: &Overlay, n: u32) -> Block
-    requires { n < pool_size over.now }
-    ensures { result ≡ block_at over.now n }
+/// A copy of a block, which may have no checksum.
+pub(crate) fn copy_of<R: Record>(draft: &Draft<R>, n: u32) -> Block
+    requires { n < pool_size draft.now }
+    ensures { ReadsAs R.form result (block_at draft.now n) }
 {
-    *over.block(n)
+    *draft.block(n)
 }
 
 /// A neighbour's block as a number of the pool.
@@ -55,8 +56,8 @@ fn put_items<R: Record>(
     requires few { (count_in first.now ≤ item_most R.form level) × (count_in second.now ≤ item_most R.form level) }
     requires room { to - from ≤ item_most R.form level }
     ensures { (site : Site) (place one other : Place) (xs ys : List (Item R level)) → IsHeader fields.now site place
-        → IsBlockOf R.form level site one xs first.now → IsBlockOf R.form level site other ys second.now
-        → IsBlockOf R.form level site place (take (to - from) (drop from (xs ++ ys))) out.new }
+        → IsBlockOf R.form level site one xs (sealed R.form first.now) → IsBlockOf R.form level site other ys (sealed R.form second.now)
+        → IsBlockOf R.form level site place (take (to - from) (drop from (xs ++ ys))) (sealed R.form out.new) }
 {
     if level == 0 {
         gather_leaf::<R>(out, fields, first, second, from, to);
@@ -68,7 +69,7 @@ fn put_items<R: Record>(
 /// Writes a block of a level of the items from a place to another of two blocks, the second's behind the first's, with two
 /// neighbours.
 pub(crate) fn gather<R: Record>(
-    over: &mut Overlay,
+    draft: &mut Draft<R>,
     n: u32,
     level: u32,
     left: Option<u32>,
@@ -78,32 +79,32 @@ pub(crate) fn gather<R: Record>(
     from: usize,
     to: usize,
 )
-    requires here { n < pool_size over.old }
+    requires here { n < pool_size draft.old }
     requires level { level < 2 ^ 16 }
     requires order { from ≤ to }
     requires within { to ≤ count_in first.now + count_in second.now }
     requires few { (count_in first.now ≤ item_most R.form level) × (count_in second.now ≤ item_most R.form level) }
     requires room { to - from ≤ item_most R.form level }
-    ensures writes { Writes over.old over.new (n ∷ []) }
-    ensures block { (one other : Place) (xs ys : List (Item R level)) → IsBlockOf R.form level (site_of over.old) one xs first.now
-        → IsBlockOf R.form level (site_of over.old) other ys second.now
-        → IsBlockOf R.form level (site_of over.old) (record { number = n; level = level; left = left; right = right })
-        (take (to - from) (drop from (xs ++ ys))) (block_at over.new n) }
+    ensures writes { Writes draft.old draft.new (n ∷ []) }
+    ensures block { (one other : Place) (xs ys : List (Item R level)) → IsBlockOf R.form level (site_of draft.old) one xs (sealed R.form first.now)
+        → IsBlockOf R.form level (site_of draft.old) other ys (sealed R.form second.now)
+        → IsBlockOf R.form level (site_of draft.old) (record { number = n; level = level; left = left; right = right })
+        (take (to - from) (drop from (xs ++ ys))) (block_at draft.new n) }
 {
-    is_known(over);
-    let fields = Header::new(over, n, level, left, right);
-    put_items::<R>(over.block_mut(n), &fields, level, first, second, from, to);
+    draft.is_known();
+    let fields = draft.header(n, level, left, right);
+    put_items::<R>(draft.block_mut(n), &fields, level, first, second, from, to);
 }
 
 /// Gives the block behind one, if there is one, another left neighbour.
-pub(crate) fn relink<R: Record>(over: &mut Overlay, next: Option<u32>, left: u32)
-    requires { (q : ℕ) → next ≡ Some q → q < pool_size over.old }
-    ensures writes { Writes over.old over.new (option_to_list next) }
-    ensures relinked { (q old : ℕ) → next ≡ Some q → IsRelinked R.form over.old over.new q old left }
+pub(crate) fn relink<R: Record>(draft: &mut Draft<R>, next: Option<u32>, left: u32)
+    requires { (q : ℕ) → next ≡ Some q → q < pool_size draft.old }
+    ensures writes { Writes draft.old draft.new (option_to_list next) }
+    ensures relinked { (q old : ℕ) → next ≡ Some q → IsRelinked R.form draft.old draft.new q old left }
 {
-    is_known(over);
+    draft.is_known();
     if let Some(n) = next {
-        set_left::<R>(over.block_mut(n), Some(left));
+        set_left::<R>(draft.block_mut(n), Some(left));
     }
 }
 
@@ -121,50 +122,50 @@ pub(crate) fn put_key<R: Record>(block: &Block, level: u32, out: &mut [u8])
 }
 
 /// Gives a child of a node the key that its block has now.
-pub(crate) fn set_child_key<R: Record>(over: &mut Overlay, n: u32, level: u32, k: usize, c: u32)
-    requires here { (n < pool_size over.old) × (c < pool_size over.old) }
-    requires keyed { HasKey R.form level (block_at over.old c) }
-    requires within { k < count_in (block_at over.old n) }
-    requires few { count_in (block_at over.old n) ≤ R.form.node_max }
-    ensures writes { Writes over.old over.new (n ∷ []) }
-    ensures node { (site : Site) (place : Place) (entries : List Entry) → IsNodeOf R.form site place entries (block_at over.old n)
-        → IsNodeOf R.form site place (with_key k (key_held R.form (tree_held R.form over.old) level c) entries) (block_at over.new n) }
+pub(crate) fn set_child_key<R: Record>(draft: &mut Draft<R>, n: u32, level: u32, k: usize, c: u32)
+    requires here { (n < pool_size draft.old) × (c < pool_size draft.old) }
+    requires keyed { HasKey R.form level (block_at draft.old c) }
+    requires within { k < count_in (block_at draft.old n) }
+    requires few { count_in (block_at draft.old n) ≤ R.form.node_max }
+    ensures writes { Writes draft.old draft.new (n ∷ []) }
+    ensures node { (site : Site) (place : Place) (entries : List Entry) → IsNodeOf R.form site place entries (block_at draft.old n)
+        → IsNodeOf R.form site place (with_key k (key_held R.form (tree_held R.form draft.old) level c) entries) (block_at draft.new n) }
 {
-    is_known(over);
+    draft.is_known();
     key_fits::<R>();
     let mut room = [0; KEY_ROOM];
     let key = &mut room[..R::LOW + R::HIGH];
-    put_key::<R>(over.block(c), level, key);
-    set_key::<R>(over.block_mut(n), k, key);
+    put_key::<R>(draft.block(c), level, key);
+    set_key::<R>(draft.block_mut(n), k, key);
 }
 
 /// Puts a block with its key among the children of a node that isn't full.
-pub(crate) fn put_child<R: Record>(over: &mut Overlay, n: u32, level: u32, k: usize, m: u32)
-    requires here { (n < pool_size over.old) × (m < pool_size over.old) }
-    requires keyed { HasKey R.form level (block_at over.old m) }
-    requires within { k ≤ count_in (block_at over.old n) }
-    requires room { count_in (block_at over.old n) < R.form.node_max }
-    ensures writes { Writes over.old over.new (n ∷ []) }
-    ensures node { (site : Site) (place : Place) (entries : List Entry) → IsNodeOf R.form site place entries (block_at over.old n)
-        → IsNodeOf R.form site place (insert entries k (entry_for R.form over.old level m)) (block_at over.new n) }
+pub(crate) fn put_child<R: Record>(draft: &mut Draft<R>, n: u32, level: u32, k: usize, m: u32)
+    requires here { (n < pool_size draft.old) × (m < pool_size draft.old) }
+    requires keyed { HasKey R.form level (block_at draft.old m) }
+    requires within { k ≤ count_in (block_at draft.old n) }
+    requires room { count_in (block_at draft.old n) < R.form.node_max }
+    ensures writes { Writes draft.old draft.new (n ∷ []) }
+    ensures node { (site : Site) (place : Place) (entries : List Entry) → IsNodeOf R.form site place entries (block_at draft.old n)
+        → IsNodeOf R.form site place (insert entries k (entry_for R.form draft.old level m)) (block_at draft.new n) }
 {
-    is_known(over);
+    draft.is_known();
     key_fits::<R>();
     let mut room = [0; KEY_ROOM];
     let key = &mut room[..R::LOW + R::HIGH];
-    put_key::<R>(over.block(m), level, key);
-    put_entry::<R>(over.block_mut(n), k, key, m);
+    put_key::<R>(draft.block(m), level, key);
+    put_entry::<R>(draft.block_mut(n), k, key, m);
 }
 
 /// Cuts a child out of a node.
-pub(crate) fn cut_child<R: Record>(over: &mut Overlay, n: u32, k: usize)
-    requires here { n < pool_size over.old }
-    requires within { k < count_in (block_at over.old n) }
-    requires few { count_in (block_at over.old n) ≤ R.form.node_max }
-    ensures writes { Writes over.old over.new (n ∷ []) }
-    ensures node { (site : Site) (place : Place) (entries : List Entry) → IsNodeOf R.form site place entries (block_at over.old n)
-        → IsNodeOf R.form site place (remove entries k) (block_at over.new n) }
+pub(crate) fn cut_child<R: Record>(draft: &mut Draft<R>, n: u32, k: usize)
+    requires here { n < pool_size draft.old }
+    requires within { k < count_in (block_at draft.old n) }
+    requires few { count_in (block_at draft.old n) ≤ R.form.node_max }
+    ensures writes { Writes draft.old draft.new (n ∷ []) }
+    ensures node { (site : Site) (place : Place) (entries : List Entry) → IsNodeOf R.form site place entries (block_at draft.old n)
+        → IsNodeOf R.form site place (remove entries k) (block_at draft.new n) }
 {
-    is_known(over);
-    cut_entry::<R>(over.block_mut(n), k);
+    draft.is_known();
+    cut_entry::<R>(draft.block_mut(n), k);
 }

@@ -5,17 +5,18 @@ ghost use Rattle.xr_blocks.specs.TreeBlock.{entries_in};
 ghost use Rattle.xr_change.specs.Changes.{HasRoom};
 ghost use Rattle.xr_change.specs.Ways.{IsInTree, IsWay, child_of, full_on_way, is_full, item_count, item_most, way_place};
 
+use crate::draft::Draft;
 use crate::rearrange::split_child;
-use crate::way::{child_block, half_of, is_known, way_of};
-use xr_blocks::{Overlay, Record};
+use crate::way::{child_block, half_of, way_of};
+use xr_blocks::Record;
 use xr_node::read::count_of;
 
 /// Whether a block has as many items as it may.
-pub(crate) fn is_full<R: Record>(over: &Overlay, n: u32, level: u32) -> bool
-    requires { IsInTree R.form over.now level n }
-    ensures { result ≡ is_full R.form over.now level n }
+pub(crate) fn is_full<R: Record>(draft: &Draft<R>, n: u32, level: u32) -> bool
+    requires { IsInTree R.form draft.now level n }
+    ensures { result ≡ is_full R.form draft.now level n }
 {
-    let count = count_of(over.block(n));
+    let count = count_of(draft.block(n));
     if level == 0 {
         count == R::LEAF_MAX as usize
     } else {
@@ -24,32 +25,32 @@ pub(crate) fn is_full<R: Record>(over: &Overlay, n: u32, level: u32) -> bool
 }
 
 /// The child under which a record belongs, once the child in its place was split, which is full.
-fn split_way<R: Record>(over: &mut Overlay, n: u32, level: u32, k: usize, r: &R) -> usize
-    requires here { IsInTree R.form over.old (level + 1) n }
-    requires room { length (entries_in R.form (block_at over.old n)) < R.form.node_max }
-    requires way { IsWay R.form over.old level n r.now k }
-    requires place { k ≡ way_place R.form r.now (entries_in R.form (block_at over.old n)) }
-    requires full { item_count R.form over.old level (child_of R.form over.old n k) ≡ item_most R.form level }
-    requires spare { 1 ≤ free_count over.old }
-    ensures { HasRoom R.form over.old over.new level n r.now result }
+fn split_way<R: Record>(draft: &mut Draft<R>, n: u32, level: u32, k: usize, r: &R) -> usize
+    requires here { IsInTree R.form draft.old (level + 1) n }
+    requires room { length (entries_in R.form (block_at draft.old n)) < R.form.node_max }
+    requires way { IsWay R.form draft.old level n r.now k }
+    requires place { k ≡ way_place R.form r.now (entries_in R.form (block_at draft.old n)) }
+    requires full { item_count R.form draft.old level (child_of R.form draft.old n k) ≡ item_most R.form level }
+    requires spare { 1 ≤ free_count draft.old }
+    ensures { HasRoom R.form draft.old draft.new level n r.now result }
 {
-    is_known(over);
-    split_child::<R>(over, n, level, k);
-    half_of(over, n, level, k, r)
+    draft.is_known();
+    split_child::<R>(draft, n, level, k);
+    half_of(draft, n, level, k, r)
 }
 
 /// The child under which a record belongs, which has room for one item more: a full one is split.
-pub(crate) fn roomy_way<R: Record>(over: &mut Overlay, n: u32, level: u32, r: &R) -> usize
-    requires here { IsInTree R.form over.old (level + 1) n }
-    requires some { 1 ≤ item_count R.form over.old (level + 1) n }
-    requires room { item_count R.form over.old (level + 1) n < R.form.node_max }
-    requires free { full_on_way R.form over.old (level + 1) n r.now ≤ free_count over.old }
-    ensures { HasRoom R.form over.old over.new level n r.now result }
+pub(crate) fn roomy_way<R: Record>(draft: &mut Draft<R>, n: u32, level: u32, r: &R) -> usize
+    requires here { IsInTree R.form draft.old (level + 1) n }
+    requires some { 1 ≤ item_count R.form draft.old (level + 1) n }
+    requires room { item_count R.form draft.old (level + 1) n < R.form.node_max }
+    requires free { full_on_way R.form draft.old (level + 1) n r.now ≤ free_count draft.old }
+    ensures { HasRoom R.form draft.old draft.new level n r.now result }
 {
-    let k = way_of(over, n, level, r);
-    let child = child_block::<R>(over, n, level, k);
-    if !is_full::<R>(over, child, level) {
+    let k = way_of(draft, n, level, r);
+    let child = child_block::<R>(draft, n, level, k);
+    if !is_full::<R>(draft, child, level) {
         return k;
     }
-    split_way(over, n, level, k, r)
+    split_way(draft, n, level, k, r)
 }

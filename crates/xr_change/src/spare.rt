@@ -8,9 +8,10 @@ ghost use Rattle.xr_blocks.specs.TreeBlock.{entries_in};
 ghost use Rattle.xr_change.specs.Changes.{HasSpare};
 ghost use Rattle.xr_change.specs.Ways.{IsInTree, child_of, item_count, item_most};
 
+use crate::draft::Draft;
 use crate::rearrange::{merge_children, share_children};
-use crate::way::{child_block, is_known, way_of};
-use xr_blocks::{Overlay, Record};
+use crate::way::{child_block, way_of};
+use xr_blocks::Record;
 use xr_node::read::count_of;
 
 /// How many items a block of a level may have.
@@ -25,50 +26,50 @@ fn most_of<R: Record>(level: u32) -> usize
 }
 
 /// How many items a child of a node has.
-fn child_count<R: Record>(over: &Overlay, n: u32, level: u32, k: usize) -> usize
-    requires here { IsInTree R.form over.now (level + 1) n }
-    requires within { k < length (entries_in R.form (block_at over.now n)) }
-    ensures count { result ≡ item_count R.form over.now level (child_of R.form over.now n k) }
+fn child_count<R: Record>(draft: &Draft<R>, n: u32, level: u32, k: usize) -> usize
+    requires here { IsInTree R.form draft.now (level + 1) n }
+    requires within { k < length (entries_in R.form (block_at draft.now n)) }
+    ensures count { result ≡ item_count R.form draft.now level (child_of R.form draft.now n k) }
     ensures most { result ≤ item_most R.form level }
     ensures small { result < 2 ^ 16 }
 {
-    let child = child_block::<R>(over, n, level, k);
-    count_of(over.block(child))
+    let child = child_block::<R>(draft, n, level, k);
+    count_of(draft.block(child))
 }
 
 /// The place of a child that is half full, once it was given items of a neighbour or joined with it.
-fn fill_child<R: Record>(over: &mut Overlay, n: u32, level: u32, k: usize) -> usize
-    requires here { IsInTree R.form over.old (level + 1) n }
-    requires two { 2 ≤ length (entries_in R.form (block_at over.old n)) }
-    requires within { k < length (entries_in R.form (block_at over.old n)) }
-    requires low { item_count R.form over.old level (child_of R.form over.old n k) ≤ half R.form level }
-    ensures { (r : R) → Contains (records_of R.form over.old level (child_of R.form over.old n k ∷ [])) r → HasSpare R.form over.old over.new level n r result }
+fn fill_child<R: Record>(draft: &mut Draft<R>, n: u32, level: u32, k: usize) -> usize
+    requires here { IsInTree R.form draft.old (level + 1) n }
+    requires two { 2 ≤ length (entries_in R.form (block_at draft.old n)) }
+    requires within { k < length (entries_in R.form (block_at draft.old n)) }
+    requires low { item_count R.form draft.old level (child_of R.form draft.old n k) ≤ half R.form level }
+    ensures { (r : R) → Contains (records_of R.form draft.old level (child_of R.form draft.old n k ∷ [])) r → HasSpare R.form draft.old draft.new level n r result }
 {
-    is_known(over);
+    draft.is_known();
     let left = k.saturating_sub(1);
-    let all = child_count::<R>(over, n, level, left) + child_count::<R>(over, n, level, left + 1);
+    let all = child_count::<R>(draft, n, level, left) + child_count::<R>(draft, n, level, left + 1);
     if all <= most_of::<R>(level) {
-        merge_children::<R>(over, n, level, left);
+        merge_children::<R>(draft, n, level, left);
         return left;
     }
     if left == k {
-        share_children::<R>(over, n, level, left, all - all / 2);
+        share_children::<R>(draft, n, level, left, all - all / 2);
         return k;
     }
-    share_children::<R>(over, n, level, left, all / 2);
+    share_children::<R>(draft, n, level, left, all / 2);
     k
 }
 
 /// The child under which a record stands, which may have one item less then: one that may not is given some.
-pub(crate) fn spare_way<R: Record>(over: &mut Overlay, n: u32, level: u32, r: &R) -> usize
-    requires here { IsInTree R.form over.old (level + 1) n }
-    requires two { 2 ≤ item_count R.form over.old (level + 1) n }
-    requires held { Contains (records_of R.form over.old (level + 1) (n ∷ [])) r.now }
-    ensures { HasSpare R.form over.old over.new level n r.now result }
+pub(crate) fn spare_way<R: Record>(draft: &mut Draft<R>, n: u32, level: u32, r: &R) -> usize
+    requires here { IsInTree R.form draft.old (level + 1) n }
+    requires two { 2 ≤ item_count R.form draft.old (level + 1) n }
+    requires held { Contains (records_of R.form draft.old (level + 1) (n ∷ [])) r.now }
+    ensures { HasSpare R.form draft.old draft.new level n r.now result }
 {
-    let k = way_of(over, n, level, r);
-    if child_count::<R>(over, n, level, k) > most_of::<R>(level) / 2 {
+    let k = way_of(draft, n, level, r);
+    if child_count::<R>(draft, n, level, k) > most_of::<R>(level) / 2 {
         return k;
     }
-    fill_child::<R>(over, n, level, k)
+    fill_child::<R>(draft, n, level, k)
 }

@@ -6,15 +6,15 @@ ghost use Rattle.xr_blocks.specs.Overlay.{block_at};
 ghost use Rattle.xr_blocks.specs.Rows.{named_below};
 ghost use Rattle.xr_blocks.specs.Tree.{records_of, tree_held};
 ghost use Rattle.xr_blocks.specs.TreeBlock.{Entry, entries_in};
-ghost use Rattle.xr_change.specs.Alters.{AreKnown};
 ghost use Rattle.xr_change.specs.Ways.{IsInTree, IsKth, IsWay, item_count, way_place};
 ghost use Rattle.xr_lookup.specs.Cuts.{entry_is_before};
 ghost use Rattle.xr_lookup.specs.declared.cut.Cut.TheVariants.{Behind};
 
-use xr_blocks::{Overlay, Record};
+use crate::draft::Draft;
+use xr_blocks::Record;
 use xr_lookup::cut::Cut;
-use xr_lookup::steps::{child_of, children_before};
-use xr_node::read::low_key_at;
+use xr_lookup::node::child_place;
+use xr_node::read::{child_at, low_key_at};
 
 /// A child of a node, by its place and its block.
 #[derive(Clone, Copy)]
@@ -23,37 +23,29 @@ pub(crate) struct Step {
     pub child: u32,
 }
 
-/// Does nothing: what is known of any overlay, for a proof.
-pub(crate) fn is_known(over: &Overlay)
-    ensures { AreKnown over.now }
-{
-    over.has_blocks();
-}
-
 /// The child of a node under which a record belongs. The level is that of the children.
-#[tactic(auto, using(crate::proofs::InTree::is_under))]
-pub(crate) fn way_of<R: Record>(over: &Overlay, n: u32, level: u32, r: &R) -> usize
-    requires here { IsInTree R.form over.now (level + 1) n }
-    requires some { 1 ≤ item_count R.form over.now (level + 1) n }
-    ensures way { IsWay R.form over.now level n r.now result }
-    ensures place { result ≡ way_place R.form r.now (entries_in R.form (block_at over.now n)) }
+pub(crate) fn way_of<R: Record>(draft: &Draft<R>, n: u32, level: u32, r: &R) -> usize
+    requires here { IsInTree R.form draft.now (level + 1) n }
+    requires some { 1 ≤ item_count R.form draft.now (level + 1) n }
+    ensures way { IsWay R.form draft.now level n r.now result }
+    ensures place { result ≡ way_place R.form r.now (entries_in R.form (block_at draft.now n)) }
 {
-    children_before(over, n, level, &Cut::Behind(*r)).saturating_sub(1)
+    child_place(draft.block(n), &Cut::Behind(*r)).saturating_sub(1)
 }
 
 /// The one of two neighbouring children under which a record belongs that belongs under one of them.
-pub(crate) fn half_of<R: Record>(over: &Overlay, n: u32, level: u32, k: usize, r: &R) -> usize
-    requires here { IsInTree R.form over.now (level + 1) n }
-    requires within { k + 1 < item_count R.form over.now (level + 1) n }
-    requires before { All (λ x. R.form.order x r.now ≡ Less) (records_of R.form over.now level (take k (named_below (tree_held R.form over.now) n))) }
-    requires behind { All (λ x. R.form.order r.now x ≡ Less) (records_of R.form over.now level (drop (k + 2) (named_below (tree_held R.form over.now) n))) }
-    ensures way { IsWay R.form over.now level n r.now result }
-    ensures first { (d : Entry) → result ≡ k → entry_is_before R.form (Behind r.now) (slice_index_or (entries_in R.form (block_at over.now n)) (k + 1) d) ≡ false }
-    ensures second { (d : Entry) → result ≡ k + 1 → entry_is_before R.form (Behind r.now) (slice_index_or (entries_in R.form (block_at over.now n)) (k + 1) d) ≡ true }
+pub(crate) fn half_of<R: Record>(draft: &Draft<R>, n: u32, level: u32, k: usize, r: &R) -> usize
+    requires here { IsInTree R.form draft.now (level + 1) n }
+    requires within { k + 1 < item_count R.form draft.now (level + 1) n }
+    requires before { All (λ x. R.form.order x r.now ≡ Less) (records_of R.form draft.now level (take k (named_below (tree_held R.form draft.now) n))) }
+    requires behind { All (λ x. R.form.order r.now x ≡ Less) (records_of R.form draft.now level (drop (k + 2) (named_below (tree_held R.form draft.now) n))) }
+    ensures way { IsWay R.form draft.now level n r.now result }
+    ensures first { (d : Entry) → result ≡ k → entry_is_before R.form (Behind r.now) (slice_index_or (entries_in R.form (block_at draft.now n)) (k + 1) d) ≡ false }
+    ensures second { (d : Entry) → result ≡ k + 1 → entry_is_before R.form (Behind r.now) (slice_index_or (entries_in R.form (block_at draft.now n)) (k + 1) d) ≡ true }
     ensures either { (result ≡ k) ⊎ (result ≡ k + 1) }
 {
     let next = k + 1;
-    if Cut::Behind(*r).passes_key(low_key_at::<R>(over.block(n), next)) {
+    if Cut::Behind(*r).passes_key(low_key_at::<R>(draft.block(n), next)) {
         next
     } else {
         k
@@ -61,13 +53,12 @@ pub(crate) fn half_of<R: Record>(over: &Overlay, n: u32, level: u32, k: usize, r
 }
 
 /// The block of a child of a node.
-#[tactic(auto, using(crate::proofs::InTree::is_under))]
-pub(crate) fn child_block<R: Record>(over: &Overlay, n: u32, level: u32, k: usize) -> u32
-    requires here { IsInTree R.form over.now (level + 1) n }
-    requires within { k < length (entries_in R.form (block_at over.now n)) }
-    ensures kth { IsKth R.form over.now level n k result }
-    ensures here { IsInTree R.form over.now level result }
+pub(crate) fn child_block<R: Record>(draft: &Draft<R>, n: u32, level: u32, k: usize) -> u32
+    requires here { IsInTree R.form draft.now (level + 1) n }
+    requires within { k < length (entries_in R.form (block_at draft.now n)) }
+    ensures kth { IsKth R.form draft.now level n k result }
+    ensures here { IsInTree R.form draft.now level result }
 {
-    is_known(over);
-    child_of::<R>(over, n, level, k)
+    draft.is_known();
+    child_at::<R>(draft.block(n), k) as u32
 }

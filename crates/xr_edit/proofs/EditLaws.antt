@@ -98,11 +98,6 @@ module _ {X : Type 0} (form : Form X) (laws : IsForm form) (site : Site) (place 
         whole = whole.whole;
       }
 
-  -- only the place of a block is another
-  pub leaf_moved : (other : Place) (records : List X) (next : List ℕ) → IsLeafOf form site place records bytes → next ≡ leaf_bytes form site other records
-      → IsLeafOf form site other records next
-  leaf_moved other records next is moved = record { identified = is.identified; valid = is.valid; few = is.few; whole = moved }
-
   pub holds_records : (records : List X) → IsLeafOf form site place records bytes → HoldsRecords form bytes
   holds_records records is = record {
     most_items = omega (arith, leaf_count records is, is.few);
@@ -121,12 +116,6 @@ module _ {X : Type 0} (form : Form X) (laws : IsForm form) (site : Site) (place 
   pub node_count : (entries : List Entry) → IsNodeOf form site place entries bytes → count_in bytes ≡ length entries
   node_count entries is =
       ap count_in is.whole ∙ count_of_block form site place (length entries) (node_items form entries) (omega (arith, is.few, laws.node_few))
-
-  pub whole_of_node : (least : ℕ) (entries : List Entry) → IsNodeOf form site place entries bytes → least ≤ length entries
-      → IsWhole least form.node_max (node_bytes form site) (entries_in form bytes) place bytes
-  whole_of_node least entries is some =
-      subst (λ (es : List Entry). IsWhole least form.node_max (node_bytes form site) es place bytes) (sym (node_entries entries is))
-      (record { whole = is.whole; least_items = some; most_items = is.few })
 
   pub node_of_whole : (least : ℕ) → length site.uuid ≡ 16 → length bytes ≡ BLOCK_BYTES → AreBytes bytes
       → IsWhole least form.node_max (node_bytes form site) (entries_in form bytes) place bytes → IsNodeOf form site place (entries_in form bytes) bytes

@@ -2,16 +2,15 @@
 use Rattle.std.proofs.Common.{◌≡◌, ℕ, ◌+◌, ◌-◌, ◌*◌, ◌≤◌, Option, List, ◌++◌, length, take, drop, replicate, refl, sym, ap, ◌∙◌, arith}
 use Rattle.std.proofs.Math.Seq.{take-append-add}
 use Rattle.std.proofs.lemmas.List.{append_assoc, drop_at, drop-append-le, drop-drop, drop-take, length-append, length-replicate, length-take-le, take-append-le, take_at, take-take}
-use Rattle.byteorder.specs.Endian.{big_bytes, little_bytes}
-use Rattle.xr_base.specs.Checksum.{checksum_of, without_four}
+use Rattle.byteorder.specs.Endian.{big_bytes}
 use Rattle.xr_base.specs.Image.{overlaid}
-use Rattle.xr_base.specs.ImageLaws.{length-overlaid}
 use Rattle.xr_base.specs.declared.geometry.TheConstants.{BLOCK_BYTES}
 use Rattle.xr_blocks.specs.BlockLaws.{drop_overlaid, fields_fill, length-header, length-neighbour}
 use Rattle.xr_blocks.specs.Form.{Form, header_size, pointer_size}
-use Rattle.xr_blocks.specs.TreeBlock.{Place, Site, filled, header, neighbour, sum_place, summed, tree_block}
-use Rattle.xr_node.proofs.BlockTesting.{IsLaid, block_laid, front, laid, laid_behind, laid_block, laid_front, length-sum, rest_of}
-use Rattle.xr_edit.specs.Edit.{IsHeader, with_left, with_right}
+use Rattle.xr_blocks.specs.TreeBlock.{Place, Site, filled, header, neighbour, sum_place, tree_block}
+use Rattle.xr_node.proofs.BlockTesting.{IsLaid, block_laid, front, laid, laid_behind, laid_block, laid_front, rest_of}
+use Rattle.xr_edit.specs.Edit.{IsHeader, sealed, with_left, with_right}
+use Rattle.xr_edit.specs.SealLaws.{drop_summed, take_summed}
 use Rattle.xr_edit.specs.declared.header.Header.{Header}
 
 -- bytes of the same length over some that stand at a place
@@ -74,9 +73,9 @@ pub record IsSplit {X : Type 0} (form : Form X) (start : ℕ) (head rest bytes :
   pub heads : head ≡ take start bytes
   pub rests : rest ≡ drop start bytes
 
--- a block after other items, their count and the checksum were written
-abbrev pub edited : {X : Type 0} → Form X → ℕ → List ℕ → List ℕ → List ℕ
-edited form count head area = summed (sum_place form) (overlaid 6 (big_bytes 2 count) (head ++ area))
+-- a block after other items and their count were written
+abbrev pub edited : ℕ → List ℕ → List ℕ → List ℕ
+edited count head area = overlaid 6 (big_bytes 2 count) (head ++ area)
 
 module _ {X : Type 0} (form : Form X) (site : Site) (identified : length site.uuid ≡ 16) where
   length-laid : (place : Place) (count : ℕ) (items : List ℕ)
@@ -87,21 +86,17 @@ module _ {X : Type 0} (form : Form X) (site : Site) (identified : length site.uu
       length-append (header form site place count) items ∙ omega (arith, length-header form site place count identified) in
       length-append fields (replicate (BLOCK_BYTES - length fields) 0) ∙ omega (arith, long, length-replicate {A = ℕ} (BLOCK_BYTES - length fields) 0)
 
-  -- a block has room for its items
-  pub block_room : (place : Place) (count : ℕ) (items bytes : List ℕ) → length bytes ≡ BLOCK_BYTES → bytes ≡ tree_block form site place count items
-      → header_size form + length items ≤ BLOCK_BYTES
-  unfolding tree_block
-  block_room place count items bytes long is =
+  -- what stands beside the checksum of a block that is one of a tree as it would be sealed
+  sealed_laid : (place : Place) (count : ℕ) (items bytes : List ℕ) → length bytes ≡ BLOCK_BYTES → sealed form bytes ≡ tree_block form site place count items
+      → IsLaid form site place count items bytes
+  sealed_laid place count items bytes long is =
       let fill = fields_fill form.long in
-      let all : List ℕ = laid form site place count items in
-      let sum : List ℕ = little_bytes 4 (checksum_of (without_four (sum_place form) all)) in
-      let size = length-laid place count items in
-      let same : length bytes ≡ length all = ap length is
-      ∙ length-overlaid (sum_place form) sum all (omega (arith, fill, size, length-sum (sum_place form) all)) in
-      omega (arith, long, same, size)
-
-  whole_laid : (place : Place) (count : ℕ) (items bytes : List ℕ) → bytes ≡ tree_block form site place count items → IsLaid form site place count items bytes
-  whole_laid place count items bytes is = block_laid form site place count items bytes (omega (arith, length-laid place count items)) is
+      let sp : ℕ = sum_place form in
+      let whole = block_laid form site place count items (sealed form bytes) (omega (arith, length-laid place count items)) is in
+      record {
+        before = sym (take_summed sp bytes (omega (arith, fill, long))) ∙ whole.before;
+        behind = sym (drop_summed sp (sp + 4) bytes (omega arith) (omega (arith, fill, long))) ∙ whole.behind;
+      }
 
   items_laid : (place : Place) (count : ℕ) (items next bytes area : List ℕ) → length bytes ≡ BLOCK_BYTES → IsLaid form site place count items bytes
       → area ≡ rest_of form next → IsLaid form site place count next (take (header_size form) bytes ++ area)
@@ -138,10 +133,17 @@ module _ {X : Type 0} (form : Form X) (site : Site) (identified : length site.uu
             ∙ laid_behind form site place count items identified ∙ sym (laid_behind form site other next items identified);
       }
 
-  -- other items, with their count and the checksum
+  -- other items, as many as there were
+  pub kept_block : (place : Place) (count : ℕ) (items others bytes area : List ℕ) → length bytes ≡ BLOCK_BYTES
+      → sealed form bytes ≡ tree_block form site place count items → area ≡ rest_of form others
+      → sealed form (take (header_size form) bytes ++ area) ≡ tree_block form site place count others
+  kept_block place count items others bytes area long is rest =
+      laid_block form site place count others _ (items_laid place count items others bytes area long (sealed_laid place count items bytes long is) rest)
+
+  -- other items, with their count
   pub edited_block : (place : Place) (count next : ℕ) (items others bytes area : List ℕ) → length bytes ≡ BLOCK_BYTES
-      → bytes ≡ tree_block form site place count items → area ≡ rest_of form others
-      → edited form next (take (header_size form) bytes) area ≡ tree_block form site place next others
+      → sealed form bytes ≡ tree_block form site place count items → area ≡ rest_of form others
+      → sealed form (edited next (take (header_size form) bytes) area) ≡ tree_block form site place next others
   edited_block place count next items others bytes area long is rest =
       let fill = fields_fill form.long in
       let head : List ℕ = take (header_size form) bytes in
@@ -149,26 +151,26 @@ module _ {X : Type 0} (form : Form X) (site : Site) (identified : length site.uu
       omega (arith, length-append head area, length-take-le (header_size form) bytes (omega (arith, fill, long))) in
       laid_block form site place next others _
       (field_laid place place count next 6 others (big_bytes 2 next) (head ++ area) room (omega (arith, fill)) (count_front form site place count next)
-      (items_laid place count items others bytes area long (whole_laid place count items bytes is) rest))
+      (items_laid place count items others bytes area long (sealed_laid place count items bytes long is) rest))
 
   -- other neighbours
   pub left_block : (place : Place) (count : ℕ) (left : Option ℕ) (items bytes : List ℕ) → length bytes ≡ BLOCK_BYTES
-      → bytes ≡ tree_block form site place count items
-      → summed (sum_place form) (overlaid 8 (neighbour (pointer_size form) left) bytes) ≡ tree_block form site (with_left left place) count items
+      → sealed form bytes ≡ tree_block form site place count items
+      → sealed form (overlaid 8 (neighbour (pointer_size form) left) bytes) ≡ tree_block form site (with_left left place) count items
   left_block place count left items bytes long is =
       let fill = fields_fill form.long in
       laid_block form site (with_left left place) count items _
       (field_laid place (with_left left place) count count 8 items (neighbour (pointer_size form) left) bytes (omega (arith, fill, long))
-      (omega (arith, fill, length-neighbour (pointer_size form) left)) (left_front form site place count left) (whole_laid place count items bytes is))
+      (omega (arith, fill, length-neighbour (pointer_size form) left)) (left_front form site place count left) (sealed_laid place count items bytes long is))
 
   pub right_block : (place : Place) (count : ℕ) (right : Option ℕ) (items bytes : List ℕ) → length bytes ≡ BLOCK_BYTES
-      → bytes ≡ tree_block form site place count items
-      → summed (sum_place form) (overlaid (8 + pointer_size form) (neighbour (pointer_size form) right) bytes) ≡ tree_block form site (with_right right place) count items
+      → sealed form bytes ≡ tree_block form site place count items
+      → sealed form (overlaid (8 + pointer_size form) (neighbour (pointer_size form) right) bytes) ≡ tree_block form site (with_right right place) count items
   right_block place count right items bytes long is =
       let fill = fields_fill form.long in
       laid_block form site (with_right right place) count items _
       (field_laid place (with_right right place) count count (8 + pointer_size form) items (neighbour (pointer_size form) right) bytes (omega (arith, fill, long))
-      (omega (arith, fill, length-neighbour (pointer_size form) right)) (right_front form site place count right) (whole_laid place count items bytes is))
+      (omega (arith, fill, length-neighbour (pointer_size form) right)) (right_front form site place count right) (sealed_laid place count items bytes long is))
 
 -- a header's parts, one behind the other
 pub header_of : {X : Type 0} (form : Form X) (site : Site) (place : Place) (fields : Header) (count : ℕ) (start links placed owned : List ℕ)
@@ -181,15 +183,15 @@ unfolding header
 header_of form site place fields count start links placed owned names is_start is_links is_placed is_owned =
     rw (is_start, is_links, is_placed, is_owned, names.level, names.left, names.right, names.block, names.uuid, names.owner) (simp append_assoc refl)
 
--- a block that is built of its header, its items and the checksum
+-- a block that is built of its header and its items
 pub built_block : {X : Type 0} (form : Form X) (site : Site) (place : Place) (count room : ℕ) (items head area : List ℕ) → length site.uuid ≡ 16
     → head ≡ header form site place count → area ≡ filled room items → room + header_size form ≡ BLOCK_BYTES
-    → summed (sum_place form) (head ++ area) ≡ tree_block form site place count items
+    → sealed form (head ++ area) ≡ tree_block form site place count items
 unfolding tree_block
 built_block form site place count room items head area identified heads areas rooms =
     let fields : List ℕ = header form site place count in
     let left : room - length items ≡ BLOCK_BYTES - length (fields ++ items) =
     omega (arith, rooms, length-append fields items, length-header form site place count identified) in
-    ap (summed (sum_place form))
+    ap (sealed form)
     (ap (λ (xs : List ℕ). xs ++ area) heads ∙ ap (λ (xs : List ℕ). fields ++ xs) areas ∙ sym (append_assoc fields items (replicate (room - length items) 0))
     ∙ ap (λ (n : ℕ). fields ++ items ++ replicate n 0) left)

@@ -10,8 +10,9 @@ use Rattle.xr_base.specs.Image.{part}
 use Rattle.xr_base.specs.declared.geometry.TheConstants.{BLOCK_BYTES}
 use Rattle.xr_blocks.specs.BlockLaws.{length-items}
 use Rattle.xr_blocks.specs.Form.{Form, IsForm, header_size}
-use Rattle.xr_blocks.specs.TreeBlock.{Place, Site, count_in, filled, header, sum_place, summed, tree_block}
-use Rattle.xr_edit.specs.Edit.{IsHeader, IsLeafOf}
+use Rattle.xr_blocks.specs.TreeBlock.{Place, Site, count_in, filled, header, tree_block}
+use Rattle.xr_edit.specs.Edit.{IsHeader, IsLeafOf, sealed}
+use Rattle.xr_edit.specs.SealLaws.{sealed_count, sealed_rest}
 use Rattle.xr_edit.specs.declared.header.Header.{Header}
 use Rattle.xr_edit.proofs.EditLaws.{leaf_count, leaf_rest}
 use Rattle.xr_edit.proofs.ItemLemmas.{part_of_items}
@@ -38,7 +39,7 @@ module _ {X : Type 0} (form : Form X) (laws : IsForm form) (site : Site) (place 
     (count room : ℕ) (head area : List ℕ) (heads : head ≡ header form site place count) (rooms : room + header_size form ≡ BLOCK_BYTES) where
   pub leaf_built : (listed : List X) (bytes : List ℕ) → All (λ (r : X). form.is_valid r ≡ true) listed → bytes ++ [] ≡ flat_map form.bytes_of listed
       → length bytes ≤ form.size * form.leaf_max → count ≡ length bytes / form.size → area ≡ filled room (bytes ++ [])
-      → IsLeafOf form site place listed (summed (sum_place form) (head ++ area))
+      → IsLeafOf form site place listed (sealed form (head ++ area))
   leaf_built listed bytes valid same few counted areas =
       let long : length bytes ≡ form.size * length listed = ap length (sym (append-nil bytes) ∙ same) ∙ length-items form.bytes_of form.size listed laws.sized ∙ omega arith in
       let number : count ≡ length listed = counted ∙ ap (λ (n : ℕ). n / form.size) long ∙ mul-div_cancel_left (length listed) laws.size_some in
@@ -51,29 +52,37 @@ module _ {X : Type 0} (form : Form X) (laws : IsForm form) (site : Site) (place 
       }
 
   -- the bytes of a leaf's records
-  records_part : (one : Place) (records : List X) (bytes : List ℕ) → IsLeafOf form site one records bytes
+  records_part : (one : Place) (records : List X) (bytes : List ℕ) → length bytes ≡ BLOCK_BYTES → IsLeafOf form site one records (sealed form bytes)
       → part (header_size form) (form.size * count_in bytes) bytes ≡ flat_map form.bytes_of records
-  records_part one records bytes is =
+  records_part one records bytes full is =
+      let counted : count_in bytes ≡ length records = sym (sealed_count form bytes full) ∙ leaf_count form laws site one (sealed form bytes) records is in
       let long : length (flat_map form.bytes_of records) ≡ form.size * count_in bytes =
-      length-items form.bytes_of form.size records laws.sized ∙ ap (λ (n : ℕ). n * form.size) (sym (leaf_count form laws site one bytes records is)) ∙ omega arith in
-      ap (take (form.size * count_in bytes)) (leaf_rest form laws site one bytes records is) ∙ take_at (flat_map form.bytes_of records) _ (form.size * count_in bytes) long
+      length-items form.bytes_of form.size records laws.sized ∙ ap (λ (n : ℕ). n * form.size) (sym counted) ∙ omega arith in
+      ap (take (form.size * count_in bytes)) (sym (sealed_rest form bytes full) ∙ leaf_rest form laws site one (sealed form bytes) records is)
+      ∙ take_at (flat_map form.bytes_of records) _ (form.size * count_in bytes) long
 
   pub leaf_gathered : (one other : Place) (xs ys : List X) (from to : ℕ) (first second front behind : List ℕ)
-      → IsLeafOf form site one xs first → IsLeafOf form site other ys second
+      → length first ≡ BLOCK_BYTES → length second ≡ BLOCK_BYTES → IsLeafOf form site one xs (sealed form first) → IsLeafOf form site other ys (sealed form second)
       → front ≡ part (header_size form) (form.size * count_in first) first → behind ≡ part (header_size form) (form.size * count_in second) second
       → from ≤ to → to ≤ count_in first + count_in second → to - from ≤ form.leaf_max → count ≡ to - from
       → area ≡ filled room (part (form.size * from) (form.size * to - form.size * from) (front ++ behind))
-      → IsLeafOf form site place (take (to - from) (drop from (xs ++ ys))) (summed (sum_place form) (head ++ area))
-  leaf_gathered one other xs ys from to first second front behind is_first is_second fronts behinds order within few counted areas =
+      → IsLeafOf form site place (take (to - from) (drop from (xs ++ ys))) (sealed form (head ++ area))
+  leaf_gathered one other xs ys from to first second front behind full_first full_second is_first is_second fronts behinds order within few counted areas =
       let IsValid = λ (r : X). form.is_valid r ≡ true in
       let items : List X = xs ++ ys in
       let all : length items ≡ count_in first + count_in second =
-      length-append xs ys ∙ omega (arith, leaf_count form laws site one first xs is_first, leaf_count form laws site other second ys is_second) in
+      length-append xs ys ∙ omega (
+        arith,
+        sealed_count form first full_first,
+        sealed_count form second full_second,
+        leaf_count form laws site one (sealed form first) xs is_first,
+        leaf_count form laws site other (sealed form second) ys is_second,
+      ) in
       let next : List X = take (to - from) (drop from items) in
       let size : length next ≡ to - from = length-take-le (to - from) (drop from items) (omega (arith, length-drop from items, all)) in
       let bytes : front ++ behind ≡ flat_map form.bytes_of items =
-      ap (λ (zs : List ℕ). zs ++ behind) (fronts ∙ records_part one xs first is_first)
-      ∙ ap (λ (zs : List ℕ). flat_map form.bytes_of xs ++ zs) (behinds ∙ records_part other ys second is_second) ∙ sym (flat_map-append form.bytes_of xs ys) in
+      ap (λ (zs : List ℕ). zs ++ behind) (fronts ∙ records_part one xs first full_first is_first)
+      ∙ ap (λ (zs : List ℕ). flat_map form.bytes_of xs ++ zs) (behinds ∙ records_part other ys second full_second is_second) ∙ sym (flat_map-append form.bytes_of xs ys) in
       let part_is : part (form.size * from) (form.size * to - form.size * from) (front ++ behind) ≡ flat_map form.bytes_of next =
       ap (λ (n : ℕ). part (form.size * from) n (front ++ behind)) (stretch_size form.size from to order)
       ∙ ap (part (form.size * from) (form.size * (to - from))) bytes

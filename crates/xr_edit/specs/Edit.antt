@@ -3,8 +3,12 @@ use Rattle.std.specs.Prelude.{◌≡◌, ℕ, ◌+◌, ◌≤◌, true, Option, 
 use Rattle.std.specs.List.{All}
 use Rattle.xr_blocks.specs.BlockLaws.{AreEntries}
 use Rattle.xr_blocks.specs.Form.{Form}
-use Rattle.xr_blocks.specs.TreeBlock.{Entry, Place, Site, leaf_bytes, node_bytes}
+use Rattle.xr_blocks.specs.TreeBlock.{Entry, Place, Site, leaf_bytes, node_bytes, sum_place, summed}
 use Rattle.xr_edit.specs.declared.header.Header.{Header}
+
+-- the bytes with their checksum
+abbrev pub sealed : {X : Type 0} → Form X → List ℕ → List ℕ
+sealed form bytes = summed (sum_place form) bytes
 
 -- a whole leaf with these records
 pub record IsLeafOf {X : Type 0} (form : Form X) (site : Site) (place : Place) (records : List X) (bytes : List ℕ) : Type 0 where

@@ -1,12 +1,12 @@
-//! The header of a tree's block: as a whole, its neighbours, its count, and the checksum that ends each edit.
+//! The header of a tree's block: as a whole, its neighbours, its count, and the checksum that seals the block.
 ghost use Rattle.std.specs.Prelude.{◌≡◌, ℕ, ◌+◌, ◌-◌, ◌*◌, ◌^◌, ◌<◌, ◌≤◌, ◌++◌, List, length, replicate};
 ghost use Rattle.byteorder.specs.Endian.{big_bytes};
 ghost use Rattle.xr_base.specs.Image.{overlaid};
 ghost use Rattle.xr_blocks.specs.Form.{header_size, pointer_size};
 ghost use Rattle.xr_blocks.specs.Overlay.{pool_size};
 ghost use Rattle.xr_blocks.specs.Tree.{site_of};
-ghost use Rattle.xr_blocks.specs.TreeBlock.{Place, Site, header, neighbour, sum_place, summed, tree_block};
-ghost use Rattle.xr_edit.specs.Edit.{IsHeader, with_left, with_right};
+ghost use Rattle.xr_blocks.specs.TreeBlock.{Place, Site, header, neighbour, sum_place, tree_block};
+ghost use Rattle.xr_edit.specs.Edit.{IsHeader, sealed, with_left, with_right};
 
 use byteorder::{BigEndian, ByteOrder, LittleEndian};
 use xr_base::crc32c_without;
@@ -128,37 +128,35 @@ pub(crate) fn put_header<R: Record>(out: &mut [u8], fields: &Header, count: usiz
     put_owner::<R>(owner, fields.owner);
 }
 
-/// Writes the checksum.
-pub(crate) fn seal<R: Record>(block: &mut Block)
-    ensures { block.new ≡ summed (sum_place R.form) block.old }
+/// Writes the checksum, which each edit leaves as it was.
+pub fn seal<R: Record>(block: &mut Block)
+    ensures { block.new ≡ sealed R.form block.old }
 {
     let at = checksum_place::<R>();
     let sum = crc32c_without(block, at);
     LittleEndian::write_u32(&mut block[at..at + 4], sum);
 }
 
-/// Writes the count and the checksum.
-pub(crate) fn finish<R: Record>(block: &mut Block, count: usize)
+/// Writes the count.
+pub(crate) fn put_count(block: &mut Block, count: usize)
     requires { count < 2 ^ 16 }
-    ensures { block.new ≡ summed (sum_place R.form) (overlaid 6 (big_bytes 2 count) block.old) }
+    ensures { block.new ≡ overlaid 6 (big_bytes 2 count) block.old }
 {
     BigEndian::write_u16(&mut block[COUNT_PLACE..COUNT_PLACE + 2], count as u16);
-    seal::<R>(block);
 }
 
-/// Writes a neighbour at a place of a header, and the checksum.
+/// Writes a neighbour at a place of a header.
 fn link<R: Record>(block: &mut Block, at: usize, other: Option<u32>)
     requires { at + pointer_size R.form ≤ 4096 }
-    ensures { block.new ≡ summed (sum_place R.form) (overlaid at (neighbour (pointer_size R.form) other) block.old) }
+    ensures { block.new ≡ overlaid at (neighbour (pointer_size R.form) other) block.old }
 {
     put_neighbour::<R>(&mut block[at..at + pointer_bytes::<R>()], other);
-    seal::<R>(block);
 }
 
 /// Gives a block another left neighbour.
 pub fn set_left<R: Record>(block: &mut Block, left: Option<u32>)
     ensures { (site : Site) (place : Place) (count : ℕ) (items : List ℕ) → length site.uuid ≡ 16
-        → block.old ≡ tree_block R.form site place count items → block.new ≡ tree_block R.form site (with_left left place) count items }
+        → sealed R.form block.old ≡ tree_block R.form site place count items → sealed R.form block.new ≡ tree_block R.form site (with_left left place) count items }
 {
     link::<R>(block, LEFT_PLACE, left);
 }
@@ -166,7 +164,7 @@ pub fn set_left<R: Record>(block: &mut Block, left: Option<u32>)
 /// Gives a block another right neighbour.
 pub fn set_right<R: Record>(block: &mut Block, right: Option<u32>)
     ensures { (site : Site) (place : Place) (count : ℕ) (items : List ℕ) → length site.uuid ≡ 16
-        → block.old ≡ tree_block R.form site place count items → block.new ≡ tree_block R.form site (with_right right place) count items }
+        → sealed R.form block.old ≡ tree_block R.form site place count items → sealed R.form block.new ≡ tree_block R.form site (with_right right place) count items }
 {
     link::<R>(block, LEFT_PLACE + pointer_bytes::<R>(), right);
 }

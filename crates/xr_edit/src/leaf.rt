@@ -4,10 +4,10 @@ ghost use Rattle.std.specs.List.{All, flat_map, insert, remove};
 ghost use Rattle.xr_base.specs.Image.{overlaid, part};
 ghost use Rattle.xr_blocks.specs.Form.{header_size};
 ghost use Rattle.xr_blocks.specs.TreeBlock.{Place, Site, count_in, filled};
-ghost use Rattle.xr_edit.specs.Edit.{IsHeader, IsLeafOf};
+ghost use Rattle.xr_edit.specs.Edit.{IsHeader, IsLeafOf, sealed};
 ghost use Rattle.xr_edit.specs.Items.{with_item, without_item};
 
-use crate::header::{Header, finish, put_header, seal};
+use crate::header::{Header, put_count, put_header};
 use crate::items::{cut_item, gather_items, insert_gap, put_both};
 use xr_blocks::{Block, Record};
 use xr_node::read::{count_of, header_size};
@@ -51,26 +51,26 @@ pub fn put_record<R: Record>(block: &mut Block, k: usize, added: &R)
     requires valid { IsTrue (R.form.is_valid added.now) }
     requires place { k ≤ count_in block.old }
     requires room { count_in block.old < R.LEAF_MAX }
-    ensures { (site : Site) (place : Place) (records : List R) → IsLeafOf R.form site place records block.old
-        → IsLeafOf R.form site place (insert records k added.now) block.new }
+    ensures { (site : Site) (place : Place) (records : List R) → IsLeafOf R.form site place records (sealed R.form block.old)
+        → IsLeafOf R.form site place (insert records k added.now) (sealed R.form block.new) }
 {
     let count = count_of(block);
     let (_, items) = block.split_at_mut(header_size::<R>());
     put_among(items, k, count, added);
-    finish::<R>(block, count + 1);
+    put_count(block, count + 1);
 }
 
 /// Cuts the record at a place out of a leaf.
 pub fn cut_record<R: Record>(block: &mut Block, k: usize)
     requires place { k < count_in block.old }
     requires few { count_in block.old ≤ R.LEAF_MAX }
-    ensures { (site : Site) (place : Place) (records : List R) → IsLeafOf R.form site place records block.old
-        → IsLeafOf R.form site place (remove records k) block.new }
+    ensures { (site : Site) (place : Place) (records : List R) → IsLeafOf R.form site place records (sealed R.form block.old)
+        → IsLeafOf R.form site place (remove records k) (sealed R.form block.new) }
 {
     let count = count_of(block);
     let (_, items) = block.split_at_mut(header_size::<R>());
     cut_among::<R>(items, k, count);
-    finish::<R>(block, count - 1);
+    put_count(block, count - 1);
 }
 
 /// Writes another record over the one at a place of a leaf.
@@ -78,13 +78,11 @@ pub fn set_record<R: Record>(block: &mut Block, k: usize, other: &R)
     requires valid { IsTrue (R.form.is_valid other.now) }
     requires place { k < count_in block.old }
     requires few { count_in block.old ≤ R.LEAF_MAX }
-    ensures { (site : Site) (place : Place) (records : List R) → IsLeafOf R.form site place records block.old
-        → IsLeafOf R.form site place (slice_set records k other.now) block.new }
+    ensures { (site : Site) (place : Place) (records : List R) → IsLeafOf R.form site place records (sealed R.form block.old)
+        → IsLeafOf R.form site place (slice_set records k other.now) (sealed R.form block.new) }
 {
-    let count = count_of(block);
     let (_, items) = block.split_at_mut(header_size::<R>());
     put_over(items, k, other);
-    finish::<R>(block, count);
 }
 
 /// The bytes of a leaf's records.
@@ -102,12 +100,11 @@ pub fn build_leaf<R: Record>(out: &mut Block, fields: &Header, records: &[u8])
     requires level { fields.now.level < 2 ^ 16 }
     requires room { length records.now ≤ R.form.size * R.LEAF_MAX }
     ensures { (site : Site) (place : Place) (listed : List R) → IsHeader fields.now site place → All (λ r. R.form.is_valid r ≡ true) listed
-        → records.now ≡ flat_map R.form.bytes_of listed → IsLeafOf R.form site place listed out.new }
+        → records.now ≡ flat_map R.form.bytes_of listed → IsLeafOf R.form site place listed (sealed R.form out.new) }
 {
     let (head, items) = out.split_at_mut(header_size::<R>());
     put_header::<R>(head, fields, records.len() / R::SIZE);
     put_both(items, records, &[]);
-    seal::<R>(out);
 }
 
 /// Writes a leaf of the records from a place to another of two leaves, the second's behind the first's.
@@ -125,8 +122,8 @@ pub fn gather_leaf<R: Record>(
     requires few { (count_in first.now ≤ R.LEAF_MAX) × (count_in second.now ≤ R.LEAF_MAX) }
     requires room { to - from ≤ R.LEAF_MAX }
     ensures { (site : Site) (place one other : Place) (xs ys : List R) → IsHeader fields.now site place
-        → IsLeafOf R.form site one xs first.now → IsLeafOf R.form site other ys second.now
-        → IsLeafOf R.form site place (take (to - from) (drop from (xs ++ ys))) out.new }
+        → IsLeafOf R.form site one xs (sealed R.form first.now) → IsLeafOf R.form site other ys (sealed R.form second.now)
+        → IsLeafOf R.form site place (take (to - from) (drop from (xs ++ ys))) (sealed R.form out.new) }
 {
     let size = R::SIZE;
     let (head, items) = out.split_at_mut(header_size::<R>());
@@ -138,5 +135,4 @@ pub fn gather_leaf<R: Record>(
         size * from,
         size * to,
     );
-    seal::<R>(out);
 }

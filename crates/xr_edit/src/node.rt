@@ -6,10 +6,10 @@ ghost use Rattle.xr_base.specs.Image.{overlaid, part};
 ghost use Rattle.xr_blocks.specs.BlockLaws.{AreEntries};
 ghost use Rattle.xr_blocks.specs.Form.{header_size, key_size, pointer_size};
 ghost use Rattle.xr_blocks.specs.TreeBlock.{Entry, Place, Site, count_in, filled};
-ghost use Rattle.xr_edit.specs.Edit.{IsHeader, IsNodeOf, with_key};
+ghost use Rattle.xr_edit.specs.Edit.{IsHeader, IsNodeOf, sealed, with_key};
 ghost use Rattle.xr_edit.specs.Items.{with_item, without_item};
 
-use crate::header::{Header, finish, put_header, put_number, seal};
+use crate::header::{Header, put_count, put_header, put_number};
 use crate::items::{cut_item, gather_items, insert_gap, put_both, put_item};
 use xr_blocks::{Block, Record};
 use xr_node::read::{count_of, header_size, pointer_bytes};
@@ -81,26 +81,26 @@ pub fn put_entry<R: Record>(block: &mut Block, k: usize, key: &[u8], child: u32)
     requires key { length key.now ≡ key_size R.form }
     requires place { k ≤ count_in block.old }
     requires room { count_in block.old < R.NODE_MAX }
-    ensures { (site : Site) (place : Place) (entries : List Entry) → IsNodeOf R.form site place entries block.old
-        → IsNodeOf R.form site place (insert entries k (record { key = key.now; child = child })) block.new }
+    ensures { (site : Site) (place : Place) (entries : List Entry) → IsNodeOf R.form site place entries (sealed R.form block.old)
+        → IsNodeOf R.form site place (insert entries k (record { key = key.now; child = child })) (sealed R.form block.new) }
 {
     let count = count_of(block);
     let (_, items) = block.split_at_mut(header_size::<R>());
     put_among::<R>(items, k, count, key, child);
-    finish::<R>(block, count + 1);
+    put_count(block, count + 1);
 }
 
 /// Cuts the child at a place out of a node, with its key.
 pub fn cut_entry<R: Record>(block: &mut Block, k: usize)
     requires place { k < count_in block.old }
     requires few { count_in block.old ≤ R.NODE_MAX }
-    ensures { (site : Site) (place : Place) (entries : List Entry) → IsNodeOf R.form site place entries block.old
-        → IsNodeOf R.form site place (remove entries k) block.new }
+    ensures { (site : Site) (place : Place) (entries : List Entry) → IsNodeOf R.form site place entries (sealed R.form block.old)
+        → IsNodeOf R.form site place (remove entries k) (sealed R.form block.new) }
 {
     let count = count_of(block);
     let (_, items) = block.split_at_mut(header_size::<R>());
     cut_among::<R>(items, k, count);
-    finish::<R>(block, count - 1);
+    put_count(block, count - 1);
 }
 
 /// Gives the child at a place of a node another key.
@@ -108,13 +108,11 @@ pub fn set_key<R: Record>(block: &mut Block, k: usize, key: &[u8])
     requires key { length key.now ≡ key_size R.form }
     requires place { k < count_in block.old }
     requires few { count_in block.old ≤ R.NODE_MAX }
-    ensures { (site : Site) (place : Place) (entries : List Entry) → IsNodeOf R.form site place entries block.old
-        → IsNodeOf R.form site place (with_key k key.now entries) block.new }
+    ensures { (site : Site) (place : Place) (entries : List Entry) → IsNodeOf R.form site place entries (sealed R.form block.old)
+        → IsNodeOf R.form site place (with_key k key.now entries) (sealed R.form block.new) }
 {
-    let count = count_of(block);
     let (_, items) = block.split_at_mut(header_size::<R>());
     put_over::<R>(items, k, key);
-    finish::<R>(block, count);
 }
 
 /// The bytes of a node's keys.
@@ -144,14 +142,13 @@ pub fn build_node<R: Record>(out: &mut Block, fields: &Header, keys: &[u8], poin
     requires pointers { length pointers.now ≤ R.form.node_max * pointer_size R.form }
     ensures { (site : Site) (place : Place) (entries : List Entry) → IsHeader fields.now site place → AreEntries R.form entries
         → keys.now ≡ flat_map (λ (e : Entry). e.key) entries → pointers.now ≡ flat_map (λ (e : Entry). big_bytes (pointer_size R.form) e.child) entries
-        → IsNodeOf R.form site place entries out.new }
+        → IsNodeOf R.form site place entries (sealed R.form out.new) }
 {
     let (head, items) = out.split_at_mut(header_size::<R>());
     let (first, second) = items.split_at_mut(R::NODE_MAX as usize * key_bytes::<R>());
     put_header::<R>(head, fields, pointers.len() / pointer_bytes::<R>());
     put_both(first, keys, &[]);
     put_both(second, pointers, &[]);
-    seal::<R>(out);
 }
 
 /// Writes keys from a place to another of two nodes.
@@ -214,13 +211,12 @@ pub fn gather_node<R: Record>(
     requires few { (count_in first.now ≤ R.NODE_MAX) × (count_in second.now ≤ R.NODE_MAX) }
     requires room { to - from ≤ R.NODE_MAX }
     ensures { (site : Site) (place one other : Place) (xs ys : List Entry) → IsHeader fields.now site place
-        → IsNodeOf R.form site one xs first.now → IsNodeOf R.form site other ys second.now
-        → IsNodeOf R.form site place (take (to - from) (drop from (xs ++ ys))) out.new }
+        → IsNodeOf R.form site one xs (sealed R.form first.now) → IsNodeOf R.form site other ys (sealed R.form second.now)
+        → IsNodeOf R.form site place (take (to - from) (drop from (xs ++ ys))) (sealed R.form out.new) }
 {
     let (head, items) = out.split_at_mut(header_size::<R>());
     let (keys, pointers) = items.split_at_mut(R::NODE_MAX as usize * key_bytes::<R>());
     put_header::<R>(head, fields, to - from);
     gather_keys::<R>(keys, first, second, from, to);
     gather_pointers::<R>(pointers, first, second, from, to);
-    seal::<R>(out);
 }

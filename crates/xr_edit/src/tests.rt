@@ -2,7 +2,7 @@
 
 use crate::{
     Header, build_leaf, build_node, cut_entry, cut_record, gather_leaf, gather_node, put_entry,
-    put_key_of_leaf, put_key_of_node, put_record, set_key, set_left, set_record, set_right,
+    put_key_of_leaf, put_key_of_node, put_record, seal, set_key, set_left, set_record, set_right,
 };
 use std::process::Abort;
 use std::test::Fail;
@@ -46,6 +46,7 @@ fn leaf_of(rt: &impl Abort, over: &Overlay, records: &[u8]) -> Block {
     let mut block = [7; BLOCK_BYTES];
     assert!(rt; over.len() == 8 && records.len() <= 64);
     build_leaf::<ByBlock>(&mut block, &Header::new(over, 1, 0, None, Some(3)), records);
+    seal::<ByBlock>(&mut block);
     block
 }
 
@@ -58,6 +59,7 @@ fn node_of(rt: &impl Abort, over: &Overlay, keys: &[u8], pointers: &[u8]) -> Blo
         keys,
         pointers,
     );
+    seal::<Reverse>(&mut block);
     block
 }
 
@@ -90,14 +92,17 @@ fn records_are_put_and_cut_and_set(rt: HostRuntime) -> Result<(), Fail> {
     let mut block = leaf_of(&rt, &over, RUNS);
     is_leaf(&rt, &over, &block, RUNS);
     put(&rt, &mut block, 1, 520, 2);
+    seal::<ByBlock>(&mut block);
     is_leaf(
         &rt,
         &over,
         &block,
         b"\x00\x00\x02\x00\x00\x00\x00\x04\x00\x00\x02\x08\x00\x00\x00\x02\x00\x00\x02\x10\x00\x00\x00\x01",
     );
+    // Two edits, and the checksum once.
     set(&rt, &mut block, 2, 531, 3);
     cut(&rt, &mut block, 0);
+    seal::<ByBlock>(&mut block);
     is_leaf(
         &rt,
         &over,
@@ -133,6 +138,7 @@ fn children_are_put_and_cut_and_keyed(rt: HostRuntime) -> Result<(), Fail> {
     cut_child(&rt, &mut block, 0);
     put_child(&rt, &mut block, 1, &KEYS[40..], 3);
     cut_child(&rt, &mut block, 2);
+    seal::<Reverse>(&mut block);
     is_node(
         &rt,
         &over,
@@ -150,6 +156,7 @@ fn neighbours_are_set(rt: HostRuntime) -> Result<(), Fail> {
     assert!(rt; left_of::<ByBlock>(&block).is_none() && right_of::<ByBlock>(&block) == Some(3));
     set_left::<ByBlock>(&mut block, Some(258));
     set_right::<ByBlock>(&mut block, None);
+    seal::<ByBlock>(&mut block);
     is_leaf(&rt, &over, &block, RUNS);
     assert!(rt; block[8..16] == b"\x00\x00\x01\x02\xff\xff\xff\xff"[..]);
     set_left::<Mapping>(&mut block, None);
@@ -180,6 +187,7 @@ fn gathered(
         from,
         to,
     );
+    seal::<ByBlock>(&mut block);
     block
 }
 
@@ -230,6 +238,7 @@ fn nodes_are_gathered(rt: HostRuntime) -> Result<(), Fail> {
         1,
         3,
     );
+    seal::<Reverse>(&mut block);
     is_node(
         &rt,
         &over,
@@ -270,6 +279,7 @@ fn a_leaf_gives_a_key(rt: HostRuntime) -> Result<(), Fail> {
         &Header::new(&over, 1, 0, None, None),
         b"\x00\x00\x02\x00\x00\x00\x00\x04\x00\x00\x00\x00\x00\x00\x00\x80\x00\x00\x00\x00\x00\x00\x00\x00\x00\x00\x02\x01\x00\x00\x00\x01\x00\x00\x00\x00\x00\x00\x00\x81\x00\x00\x00\x00\x00\x00\x00\x07",
     );
+    seal::<Reverse>(&mut block);
     key_of_leaf(&rt, &over, &block, &mut key);
     assert!(rt;
         key[..]

@@ -23,7 +23,7 @@ fn is_passed<R: Record>(block: &Block, k: usize, cut: &Cut<R>) -> bool
 }
 
 /// How many records of a leaf stand before a place of the order.
-pub(crate) fn place_of<R: Record>(block: &Block, cut: &Cut<R>) -> usize
+pub fn place_of<R: Record>(block: &Block, cut: &Cut<R>) -> usize
     requires leaf { IsLeaf R.form block.now }
     requires parted { IsParted (is_before R.form cut.now) (records_in R.form block.now) }
     ensures { IsPlaceOf (is_before R.form cut.now) (records_in R.form block.now) result }

@@ -2,11 +2,11 @@
 #![tactic(auto)]
 
 pub mod cut;
-mod leaf;
+pub mod leaf;
 mod lookup;
-mod node;
+pub mod node;
 mod reach;
-pub mod steps;
+mod steps;
 #[cfg(test)]
 mod tests;
 

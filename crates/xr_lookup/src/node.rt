@@ -33,7 +33,7 @@ fn is_passed<R: Record>(block: &Block, k: usize, cut: &Cut<R>) -> bool
 }
 
 /// How many children of a node begin before a place of the order.
-pub(crate) fn child_place<R: Record>(block: &Block, cut: &Cut<R>) -> usize
+pub fn child_place<R: Record>(block: &Block, cut: &Cut<R>) -> usize
     requires few { count_in block.now ≤ R.form.node_max }
     requires parted { IsParted (entry_is_before R.form cut.now) (entries_in R.form block.now) }
     ensures { IsPlaceOf (entry_is_before R.form cut.now) (entries_in R.form block.now) result }

@@ -17,7 +17,7 @@ use xr_blocks::{Block, Overlay, Record, Span};
 use xr_node::read::{child_at, count_of, high_key_at, low_key_at, record_at};
 
 /// The block of a child of a node, whose level is given.
-pub fn child_of<R: Record>(over: &Overlay, n: u32, level: u32, k: usize) -> u32
+pub(crate) fn child_of<R: Record>(over: &Overlay, n: u32, level: u32, k: usize) -> u32
     requires node { IsUnder R.form over.now (level + 1) n }
     requires within { k < length (entries_in R.form (block_at over.now n)) }
     ensures under { IsUnder R.form over.now level result }
@@ -29,7 +29,7 @@ pub fn child_of<R: Record>(over: &Overlay, n: u32, level: u32, k: usize) -> u32
 }
 
 /// How many children a node has. The level is that of the children.
-pub fn child_count<R: Record>(over: &Overlay, n: u32, level: u32) -> usize
+pub(crate) fn child_count<R: Record>(over: &Overlay, n: u32, level: u32) -> usize
     requires { IsUnder R.form over.now (level + 1) n }
     ensures { result ≡ length (entries_in R.form (block_at over.now n)) }
 {
@@ -37,7 +37,7 @@ pub fn child_count<R: Record>(over: &Overlay, n: u32, level: u32) -> usize
 }
 
 /// How many records a leaf has.
-pub fn record_count<R: Record>(over: &Overlay, n: u32) -> usize
+pub(crate) fn record_count<R: Record>(over: &Overlay, n: u32) -> usize
     requires { IsUnder R.form over.now 0 n }
     ensures { result ≡ length (records_in R.form (block_at over.now n)) }
 {
@@ -45,7 +45,7 @@ pub fn record_count<R: Record>(over: &Overlay, n: u32) -> usize
 }
 
 /// How many children of a node begin before a place of the order. The level is that of the children.
-pub fn children_before<R: Record>(over: &Overlay, n: u32, level: u32, cut: &Cut<R>) -> usize
+pub(crate) fn children_before<R: Record>(over: &Overlay, n: u32, level: u32, cut: &Cut<R>) -> usize
     requires { IsUnder R.form over.now (level + 1) n }
     ensures { IsPlaceOf (entry_is_before R.form cut.now) (entries_in R.form (block_at over.now n)) result }
 {
@@ -53,7 +53,7 @@ pub fn children_before<R: Record>(over: &Overlay, n: u32, level: u32, cut: &Cut<
 }
 
 /// How many records of a leaf stand before a place of the order.
-pub fn records_before<R: Record>(over: &Overlay, n: u32, cut: &Cut<R>) -> usize
+pub(crate) fn records_before<R: Record>(over: &Overlay, n: u32, cut: &Cut<R>) -> usize
     requires { IsUnder R.form over.now 0 n }
     ensures { IsPlaceOf (is_before R.form cut.now) (records_in R.form (block_at over.now n)) result }
 {
@@ -61,7 +61,7 @@ pub fn records_before<R: Record>(over: &Overlay, n: u32, cut: &Cut<R>) -> usize
 }
 
 /// A record of a leaf.
-pub fn record_of<R: Record>(over: &Overlay, n: u32, k: usize) -> Option<R>
+pub(crate) fn record_of<R: Record>(over: &Overlay, n: u32, k: usize) -> Option<R>
     requires leaf { IsUnder R.form over.now 0 n }
     requires within { k < length (records_in R.form (block_at over.now n)) }
     ensures { result ≡ slice_get (records_in R.form (block_at over.now n)) k }
@@ -83,7 +83,7 @@ fn reach_at<R: Reach>(block: &Block, k: usize) -> Span
 }
 
 /// A run that holds the blocks or offsets of all records under a child of a node, whose level is given.
-pub fn reach_of<R: Reach>(over: &Overlay, n: u32, level: u32, k: usize) -> Span
+pub(crate) fn reach_of<R: Reach>(over: &Overlay, n: u32, level: u32, k: usize) -> Span
     requires node { IsUnder R.form over.now (level + 1) n }
     requires within { k < length (entries_in R.form (block_at over.now n)) }
     ensures { (d : Entry) → (let e = slice_index_or (entries_in R.form (block_at over.now n)) k d in All (λ x. IsInside (R.span_of x) result) (tree_records R.form over.now e.child level)) }

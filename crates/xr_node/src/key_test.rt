@@ -26,6 +26,7 @@ fn is_less(key: &[u8], other: &[u8]) -> bool
     key < other
 }
 
+/// Whether two keys are the same, byte by byte.
 pub fn is_same(key: &[u8], other: &[u8]) -> bool
     ensures { IsTrue result ↔ key.now ≡ other.now }
 {

@@ -82,7 +82,7 @@ pub fn key_at<R: Record>(block: &Block, k: usize) -> &[u8]
     &block[at..at + (R::LOW + R::HIGH)]
 }
 
-/// The low key alone, and the high key alone.
+/// The low key of a child alone.
 pub fn low_key_at<R: Record>(block: &Block, k: usize) -> &[u8]
     requires { k < R.NODE_MAX }
     ensures long { length result.now ≡ R.LOW }
@@ -91,6 +91,7 @@ pub fn low_key_at<R: Record>(block: &Block, k: usize) -> &[u8]
     &key_at::<R>(block, k)[..R::LOW]
 }
 
+/// The high key of a child alone: no bytes where the tree has none.
 pub fn high_key_at<R: Record>(block: &Block, k: usize) -> &[u8]
     requires { k < R.NODE_MAX }
     ensures long { length result.now ≡ R.HIGH }

@@ -104,15 +104,6 @@ pub record AreMarkedTo {X : Type 0} (form : Form X) (b : Blocks) (level n : ℕ)
   pub marks : (m : ℕ) → mark now m + times m (blocks_of form b level (drop k (children form b n)))
       ≡ mark seen m + times m (blocks_of form b level (children form b n))
 
-pub marked_to_none : {X : Type 0} (form : Form X) (b : Blocks) (level n : ℕ) (seen : List ℕ) → AreMarkedTo form b level n seen seen 0
-marked_to_none form b level n seen = record { long = refl; marks = λ m. refl }
-
-pub visited_to_none : {X L : Type 0} (form : Form X) (Notes : L → List X → Type 0) (b : Blocks) (level n : ℕ) (before : Option ℕ) (last : Bool) (seen : List ℕ) (noted : List X)
-    (left : Option ℕ) (p : Passed X L) → left ≡ before → IsPast form Notes p noted → AreVisitedTo form Notes b level n before last seen noted left seen p 0
-visited_to_none form Notes b level n before last seen noted left p is past =
-    subst (λ (o : Option ℕ). AreVisitedTo form Notes b level n before last seen noted o seen p 0) (sym is)
-    (record { records = noted; past = past; rest = λ sound named. (sound, named); all = λ sound named. (sound, named); same = refl })
-
 module _ {X L : Type 0} (form : Form X) (laws : IsForm form) (Notes : L → List X → Type 0) (b : Blocks) (level n : ℕ) (before : Option ℕ) (last : Bool) (seen : List ℕ) (noted : List X) (left : Option ℕ) (now : List ℕ) (p : Passed X L) (k : ℕ) (to : AreVisitedTo form Notes b level n before last seen noted left now p k) where
   -- at the end
   pub visited_all : length (children form b n) ≤ k → count_in (block_at b n) ≤ k

@@ -22,10 +22,6 @@ use Rattle.xr_blocks.specs.Spans.{apart, end_of}
 pub run_of : (x : Reverse) → is_reverse x ≡ true → (512 ≤ x.start) × (0 < x.len) × (x.start + x.len ≤ 2048)
 run_of x good = group_run (reverse_span x) (grind (arith, nat_tests))
 
--- an owner is staging, or a file
-staged_off : (x : Reverse) → is_reverse x ≡ true → x.owner ≡ OWN_COW → x.off ≡ 0
-staged_off x good is = grind (arith, nat_tests)
-
 file_of : (x : Reverse) → is_reverse x ≡ true → x.owner ≢ OWN_COW → (128 ≤ x.owner) × (x.owner < 160) × (x.off + x.len ≤ 512)
 file_of x good other = (grind (arith, nat_tests), grind (arith, nat_tests), grind (arith, nat_tests))
 

@@ -1,5 +1,5 @@
 -- Records of a leaf, passed one after the other.
-use Rattle.std.proofs.Common.{◌≡◌, ◌↔◌, ℕ, suc, ◌+◌, ◌<◌, ◌≤◌, true, IfSome, Option, Some, None, List, [], ◌∷◌, ◌++◌, length, drop, get_or, refl, sym, ap, ◌∙◌, subst, arith, drop-cons, ⊎_elim}
+use Rattle.std.proofs.Common.{◌≡◌, ◌↔◌, ℕ, suc, ◌+◌, ◌<◌, ◌≤◌, true, IfSome, Option, Some, None, List, [], ◌∷◌, ◌++◌, length, drop, get_or, sym, ap, ◌∙◌, subst, arith, drop-cons, ⊎_elim}
 use Rattle.std.proofs.Math.Seq.{get_or-append_seam}
 use Rattle.std.proofs.lemmas.Bool.{cases_eq}
 use Rattle.std.proofs.lemmas.List.{append-nil, append_assoc, drop_all, get_or_append_left, length-append}
@@ -80,10 +80,6 @@ pub record AreMerged {X L : Type 0} (form : Form X) (Notes : L → List X → Ty
   pub passed : ArePassed form past
   pub climb : Climb form (last_or None past) (drop k records)
   pub same : past ++ drop k records ≡ noted ++ records
-
-pub merged_none : {X L : Type 0} (form : Form X) (Notes : L → List X → Type 0) (ledger : L) (noted records : List X) → Notes ledger noted
-    → ArePassed form noted → Climb form (last_or None noted) records → AreMerged form Notes ledger noted records 0
-merged_none form Notes ledger noted records notes passed climb = record { past = noted; notes = notes; passed = passed; climb = climb; same = refl }
 
 module _ {X L : Type 0} (form : Form X) (laws : IsForm form) (Notes : L → List X → Type 0) (ledger : L) (noted records : List X) (k : ℕ) (merged : AreMerged form Notes ledger noted records k) where
   pub merged_all : length records ≤ k → Notes ledger (noted ++ records) × ArePassed form (noted ++ records)

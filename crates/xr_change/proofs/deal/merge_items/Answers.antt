@@ -1,19 +1,17 @@
-use Rattle.std.proofs.Common.{◌+◌, Option, ap, ◌∙◌, subst, arith}
+use Rattle.std.proofs.Common.{◌+◌, Option, ◌∙◌, subst, arith}
 use Rattle.std.specs.Option.{option_to_list}
 use Rattle.xr_blocks.specs.Overlay.{block_at}
 use Rattle.xr_blocks.specs.Tree.{site_of}
-use Rattle.xr_blocks.specs.TreeBlock.{count_in}
-use Rattle.xr_change.proofs.Dealing.{copy_count, merge_dealt}
+use Rattle.xr_change.proofs.Dealing.{copy_count, copy_sealed, merge_dealt}
 use Rattle.xr_change.proofs.ItemFacts.{gathers_as}
-use Rattle.xr_node.specs.BlockTest.{left_in, right_in}
 use Rattle.xr_change.specs.Writes.{Writes}
 use Rattle.xr_change.proofs.deal.merge_items.Goals as goal
 
 pub gather-requires : goal.gather-requires
 gather-requires g c =
     let known = c.is_known.ensures in
-    let first = copy_count g.R.Record.form g.met.R.Record.is_form c.args.over.now known c.args.level c.args.c _ c.copy_of-first.ensures c.requires.placed.0 in
-    let second = copy_count g.R.Record.form g.met.R.Record.is_form c.args.over.now known c.args.level c.args.d _ c.copy_of-second.ensures c.requires.placed.1 in
+    let first = copy_count g.R.Record.form g.met.R.Record.is_form c.args.draft.now known c.args.level c.args.c _ c.copy_of-first.ensures c.requires.placed.0 in
+    let second = copy_count g.R.Record.form g.met.R.Record.is_form c.args.draft.now known c.args.level c.args.d _ c.copy_of-second.ensures c.requires.placed.1 in
     record {
       here = c.requires.placed.0.below;
       level = c.requires.level;
@@ -27,16 +25,18 @@ pub returns : goal.returns
 returns g c =
     let known = c.is_known.ensures in
     let form = g.R.Record.form in
-    let a = c.args.over.now in
+    let a = c.args.draft.now in
     let level = c.args.level in
     let first = c.copy_of-first.ensures in
     let second = c.copy_of-second.ensures in
-    let left = c.neighbours-left.ensures.left ∙ ap (left_in form) first in
-    let right = c.neighbours-right.ensures.right ∙ ap (right_in form) second in
+    let first_sealed = copy_sealed form g.met.R.Record.is_form a known level c.args.c _ first c.requires.placed.0 in
+    let second_sealed = copy_sealed form g.met.R.Record.is_form a known level c.args.d _ second c.requires.placed.1 in
+    let left = c.neighbours-left.ensures.left ∙ first.left in
+    let right = c.neighbours-right.ensures.right ∙ second.right in
     merge_dealt form g.met.R.Record.is_form a known level c.args.c c.args.d c.requires.placed.0 c.requires.placed.1 c.count_of.result c.count_of-2.result
-    (c.count_of.ensures.count ∙ ap count_in first) (c.count_of-2.ensures.count ∙ ap count_in second)
-    c.requires.beside c.gather.new.over c.relink.new.over c.gather.ensures.writes
-    (subst (λ (next : Option _). Writes c.gather.new.over c.relink.new.over (option_to_list next)) right c.relink.ensures.writes)
+    (c.count_of.ensures.count ∙ first.count) (c.count_of-2.ensures.count ∙ second.count)
+    c.requires.beside c.gather.new.draft c.relink.new.draft c.gather.ensures.writes
+    (subst (λ (next : Option _). Writes c.gather.new.draft c.relink.new.draft (option_to_list next)) right c.relink.ensures.writes)
     (gathers_as form level c.args.c (site_of a) _ (block_at a c.args.c) _ (block_at a c.args.d) 0 (c.count_of.result + c.count_of-2.result)
-    c.neighbours-left.result.0 _ c.neighbours-right.result.1 _ _ first second left right c.gather.ensures.block)
+    c.neighbours-left.result.0 _ c.neighbours-right.result.1 _ _ first_sealed second_sealed left right c.gather.ensures.block)
     (λ q old is. c.relink.ensures.relinked q old (right ∙ is))

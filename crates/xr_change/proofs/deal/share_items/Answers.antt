@@ -1,17 +1,15 @@
-use Rattle.std.proofs.Common.{◌+◌, ap, ◌∙◌, arith}
+use Rattle.std.proofs.Common.{◌+◌, ◌∙◌, arith}
 use Rattle.xr_blocks.specs.Overlay.{block_at}
 use Rattle.xr_blocks.specs.Tree.{site_of}
-use Rattle.xr_blocks.specs.TreeBlock.{count_in}
-use Rattle.xr_change.proofs.Dealing.{copy_count, share_dealt}
+use Rattle.xr_change.proofs.Dealing.{copy_count, copy_sealed, share_dealt}
 use Rattle.xr_change.proofs.ItemFacts.{gathers_as}
-use Rattle.xr_node.specs.BlockTest.{left_in, right_in}
 use Rattle.xr_change.proofs.deal.share_items.Goals as goal
 
 pub gather-requires : goal.gather-requires
 gather-requires g c =
     let known = c.is_known.ensures in
-    let first = copy_count g.R.Record.form g.met.R.Record.is_form c.args.over.now known c.args.level c.args.c _ c.copy_of-first.ensures c.requires.placed.0 in
-    let second = copy_count g.R.Record.form g.met.R.Record.is_form c.args.over.now known c.args.level c.args.d _ c.copy_of-second.ensures c.requires.placed.1 in
+    let first = copy_count g.R.Record.form g.met.R.Record.is_form c.args.draft.now known c.args.level c.args.c _ c.copy_of-first.ensures c.requires.placed.0 in
+    let second = copy_count g.R.Record.form g.met.R.Record.is_form c.args.draft.now known c.args.level c.args.d _ c.copy_of-second.ensures c.requires.placed.1 in
     record {
       here = c.requires.placed.0.below;
       level = c.requires.level;
@@ -24,8 +22,8 @@ gather-requires g c =
 pub gather-requires-2 : goal.gather-requires-2
 gather-requires-2 g c =
     let known = c.is_known.ensures in
-    let first = copy_count g.R.Record.form g.met.R.Record.is_form c.args.over.now known c.args.level c.args.c _ c.copy_of-first.ensures c.requires.placed.0 in
-    let second = copy_count g.R.Record.form g.met.R.Record.is_form c.args.over.now known c.args.level c.args.d _ c.copy_of-second.ensures c.requires.placed.1 in
+    let first = copy_count g.R.Record.form g.met.R.Record.is_form c.args.draft.now known c.args.level c.args.c _ c.copy_of-first.ensures c.requires.placed.0 in
+    let second = copy_count g.R.Record.form g.met.R.Record.is_form c.args.draft.now known c.args.level c.args.d _ c.copy_of-second.ensures c.requires.placed.1 in
     let low = c.count_of.ensures.count ∙ first.0 in
     let high = c.count_of-2.ensures.count ∙ second.0 in
     record {
@@ -41,18 +39,20 @@ pub returns : goal.returns
 returns g c =
     let known = c.is_known.ensures in
     let form = g.R.Record.form in
-    let a = c.args.over.now in
+    let a = c.args.draft.now in
     let level = c.args.level in
     let first = c.copy_of-first.ensures in
     let second = c.copy_of-second.ensures in
+    let first_sealed = copy_sealed form g.met.R.Record.is_form a known level c.args.c _ first c.requires.placed.0 in
+    let second_sealed = copy_sealed form g.met.R.Record.is_form a known level c.args.d _ second c.requires.placed.1 in
     let low = c.neighbours-left in
     let high = c.neighbours-left-2 in
     let dealt = share_dealt form g.met.R.Record.is_form a known level c.args.c c.args.d c.requires.placed.0 c.requires.placed.1 c.count_of.result c.count_of-2.result
-    (c.count_of.ensures.count ∙ ap count_in first) (c.count_of-2.ensures.count ∙ ap count_in second) c.requires.apart c.requires.beside c.args.count
-    c.gather.new.over c.gather-2.new.over c.gather.ensures.writes c.gather-2.ensures.writes c.requires.low.0 c.requires.high
-    (gathers_as form level c.args.c (site_of a) _ (block_at a c.args.c) _ (block_at a c.args.d) 0 c.args.count low.result.0 _ low.result.1 _ _ first second
-    (low.ensures.left ∙ ap (left_in form) first) (low.ensures.right ∙ ap (right_in form) first) c.gather.ensures.block)
-    (gathers_as form level c.args.d (site_of c.gather.new.over) _ (block_at a c.args.c) _ (block_at a c.args.d) c.args.count (c.count_of.result + c.count_of-2.result)
-    high.result.0 _ high.result.1 _ _ first second
-    (high.ensures.left ∙ ap (left_in form) second) (high.ensures.right ∙ ap (right_in form) second) c.gather-2.ensures.block) in
+    (c.count_of.ensures.count ∙ first.count) (c.count_of-2.ensures.count ∙ second.count) c.requires.apart c.requires.beside c.args.count
+    c.gather.new.draft c.gather-2.new.draft c.gather.ensures.writes c.gather-2.ensures.writes c.requires.low.0 c.requires.high
+    (gathers_as form level c.args.c (site_of a) _ (block_at a c.args.c) _ (block_at a c.args.d) 0 c.args.count low.result.0 _ low.result.1 _ _ first_sealed second_sealed
+    (low.ensures.left ∙ first.left) (low.ensures.right ∙ first.right) c.gather.ensures.block)
+    (gathers_as form level c.args.d (site_of c.gather.new.draft) _ (block_at a c.args.c) _ (block_at a c.args.d) c.args.count (c.count_of.result + c.count_of-2.result)
+    high.result.0 _ high.result.1 _ _ first_sealed second_sealed
+    (high.ensures.left ∙ second.left) (high.ensures.right ∙ second.right) c.gather-2.ensures.block) in
     record { shares = dealt.0; count = dealt.1 }

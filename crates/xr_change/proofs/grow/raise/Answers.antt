@@ -17,17 +17,17 @@ write_above-requires-clause-rows g c =
     let level = c.args.root.level in
     let spot = c.take_spare-number.ensures in
     subst (λ (t : Blocks). AreRowsIn form t (half form level) level (c.args.root.number ∷ [])) (sym spot.taken)
-    (rows_taken form g.met.R.Record.is_form c.args.over.now level c.args.root.number c.requires.tree c.requires.full c.take_spare-number.result spot.was_free c.is_known.ensures.all spot.within)
+    (rows_taken form g.met.R.Record.is_form c.args.draft.now level c.args.root.number c.requires.tree c.requires.full c.take_spare-number.result spot.was_free c.is_known.ensures.all spot.within)
 
 pub returns-clause-raises : goal.returns-clause-raises
 returns-clause-raises g c =
     let form = g.R.Record.form in
-    let a = c.args.over.now in
+    let a = c.args.draft.now in
     let level = c.args.root.level in
     let root = c.args.root.number in
     let p = c.take_spare-number.result in
     let spot = c.take_spare-number.ensures in
-    let b = c.write_above.new.over in
+    let b = c.write_above.new.draft in
     subst (λ (l : ℕ). Raises form a b root level p l c.args.r.now) (sym (one_more level))
     (raised form g.met.R.Record.is_form a level root c.requires.tree c.requires.full p spot.was_free c.is_known.ensures.all spot.within b
     (subst (λ (t : Blocks). Writes t b (p ∷ [])) spot.taken c.write_above.ensures.writes)

@@ -6,10 +6,10 @@ use Rattle.xr_change.proofs.insertion.step_down.Goals as goal
 
 pub child_block-child-requires-clause-here : goal.child_block-child-requires-clause-here
 child_block-child-requires-clause-here g c =
-    subst (λ (l : ℕ). IsInTree g.R.Record.form c.roomy_way-place.new.over l c.args.n) (sym (one_more c.args.level)) c.roomy_way-place.ensures.way.here
+    subst (λ (l : ℕ). IsInTree g.R.Record.form c.roomy_way-place.new.draft l c.args.n) (sym (one_more c.args.level)) c.roomy_way-place.ensures.way.here
 
 pub returns-clause-some : goal.returns-clause-some
 returns-clause-some g c =
     let form = g.R.Record.form in
-    subst (HasSome form c.roomy_way-place.new.over c.args.level) (sym c.child_block-child.ensures.kth.is)
-    (some_if form g.met.R.Record.is_form c.roomy_way-place.new.over c.args.level _ (omega (arith, c.roomy_way-place.ensures.way.least)))
+    subst (HasSome form c.roomy_way-place.new.draft c.args.level) (sym c.child_block-child.ensures.kth.is)
+    (some_if form g.met.R.Record.is_form c.roomy_way-place.new.draft c.args.level _ (omega (arith, c.roomy_way-place.ensures.way.least)))

@@ -5,19 +5,19 @@ use Rattle.xr_change.specs.Sets.{replaced}
 use Rattle.xr_change.proofs.replacement.+replace_below.Goals as goal
 
 pub returns-then-level-eq0 : goal.returns-then-level-eq0
-returns-then-level-eq0 g t c = subst (λ (l : ℕ). Replaces g.R.Record.form c.args.over.now c.replace_in_leaf.new.over l c.args.n c.args.old.now c.args.new.now) (sym c.if-level-eq0.true) c.replace_in_leaf.ensures
+returns-then-level-eq0 g t c = subst (λ (l : ℕ). Replaces g.R.Record.form c.args.draft.now c.replace_in_leaf.new.draft l c.args.n c.args.old.now c.args.new.now) (sym c.if-level-eq0.true) c.replace_in_leaf.ensures
 
 pub mend_key-requires : goal.mend_key-requires
 mend_key-requires g t c =
     let form = g.R.Record.form in
-    may_mend form g.met.R.Record.is_form c.args.over.now c.args.over.now c.replace_below.new.over 0 (c.args.level - 1) c.args.n c.step_down-step.result.place c.step_down-step.result.child
+    may_mend form g.met.R.Record.is_form c.args.draft.now c.args.draft.now c.replace_below.new.draft 0 (c.args.level - 1) c.args.n c.step_down-step.result.place c.step_down-step.result.child
     (replaced form.order c.args.old.now c.args.new.now) (c.step_down-step.ensures.way c.args.new.now) c.step_down-step.ensures.child c.replace_below.ensures.changes
 
 pub returns : goal.returns
 returns g t c =
     let form = g.R.Record.form in
     let up : c.args.level ≡ suc (c.args.level - 1) = omega (arith, c.if-level-eq0.false) in
-    subst (λ (l : ℕ). Replaces form c.args.over.now c.mend_key.new.over l c.args.n c.args.old.now c.args.new.now) (sym up)
-    (replaces_above form g.met.R.Record.is_form c.args.over.now c.args.over.now c.replace_below.new.over (c.args.level - 1) c.args.n c.step_down-step.result.place c.step_down-step.result.child
-    c.step_down-step.ensures.child c.is_known.ensures c.mend_key.new.over c.mend_key.ensures.only c.mend_key.ensures.free c.mend_key.ensures.marks c.mend_key.ensures.node
+    subst (λ (l : ℕ). Replaces form c.args.draft.now c.mend_key.new.draft l c.args.n c.args.old.now c.args.new.now) (sym up)
+    (replaces_above form g.met.R.Record.is_form c.args.draft.now c.args.draft.now c.replace_below.new.draft (c.args.level - 1) c.args.n c.step_down-step.result.place c.step_down-step.result.child
+    c.step_down-step.ensures.child c.is_known.ensures c.mend_key.new.draft c.mend_key.ensures.only c.mend_key.ensures.free c.mend_key.ensures.marks c.mend_key.ensures.node
     c.args.old.now c.args.new.now (c.step_down-step.ensures.way c.args.new.now) refl c.replace_below.ensures)

@@ -12,7 +12,7 @@ pub returns : goal.returns
 returns g c =
     let form = g.R.Record.form in
     let laws = g.met.R.Record.is_form in
-    let over = c.args.over.now in
+    let over = c.args.draft.now in
     let level = c.args.level in
     let n = c.args.n in
     let k = c.way_of-place.result in

@@ -12,7 +12,7 @@ pub returns-then-not-is_full : goal.returns-then-not-is_full
 returns-then-not-is_full g c =
     let form = g.R.Record.form in
     let laws = g.met.R.Record.is_form in
-    let a = c.args.over.now in
+    let a = c.args.draft.now in
     let level = c.args.level in
     let n = c.args.n in
     let k = c.way_of-k.result in
@@ -26,7 +26,7 @@ pub split_way-requires : goal.split_way-requires
 split_way-requires g c =
     let form = g.R.Record.form in
     let laws = g.met.R.Record.is_form in
-    let a = c.args.over.now in
+    let a = c.args.draft.now in
     let level = c.args.level in
     let n = c.args.n in
     let k = c.way_of-k.result in

@@ -8,8 +8,8 @@ use Rattle.xr_change.proofs.room.split_way.Goals as goal
 pub half_of-requires : goal.half_of-requires
 half_of-requires g c =
     let form = g.R.Record.form in
-    let a = c.args.over.now in
-    let s = c.split_child.new.over in
+    let a = c.args.draft.now in
+    let s = c.split_child.new.draft in
     let level = c.args.level in
     let r = c.args.r.now in
     record {
@@ -31,9 +31,9 @@ half_of-requires g c =
 pub returns : goal.returns
 returns g c =
     let form = g.R.Record.form in
-    let a = c.args.over.now in
+    let a = c.args.draft.now in
     let level = c.args.level in
     let half = c.half_of.ensures in
     room_made form g.met.R.Record.is_form a c.args.r.now level c.args.n c.args.k c.requires.room c.requires.place (node_in form a level c.args.n c.requires.here)
-    c.split_child.new.over c.is_known.ensures c.split_child.result c.requires.way.within c.split_child.ensures.split c.requires.full c.half_of.result
+    c.split_child.new.draft c.is_known.ensures c.split_child.result c.requires.way.within c.split_child.ensures.split c.requires.full c.half_of.result
     half.first half.second half.either half.way c.split_child.ensures.free c.split_child.ensures.marks c.split_child.ensures.changed

@@ -1,5 +1,4 @@
-use Rattle.std.proofs.Common.{◌∙◌, ap, arith}
-use Rattle.xr_blocks.specs.TreeBlock.{count_in}
+use Rattle.std.proofs.Common.{ap, arith}
 use Rattle.xr_change.proofs.Dealing.{placed_count}
 use Rattle.xr_change.proofs.InTree.{in_pool}
 use Rattle.xr_change.proofs.ParentFacts.{kth_placed}
@@ -7,20 +6,20 @@ use Rattle.xr_change.specs.Ways.{item_count}
 use Rattle.xr_change.proofs.spare.child_count.Goals as goal
 
 pub block-requires : goal.block-requires
-block-requires g c = in_pool g.R.Record.form c.args.over.now c.args.level c.child_block-child.result c.child_block-child.ensures.here
+block-requires g c = in_pool g.R.Record.form c.args.draft.now c.args.level c.child_block-child.result c.child_block-child.ensures.here
 
 pub returns-clause-count : goal.returns-clause-count
 returns-clause-count g c =
     let form = g.R.Record.form in
-    let over = c.args.over.now in
+    let over = c.args.draft.now in
     let kth = c.child_block-child.ensures.kth in
     let size = placed_count form g.met.R.Record.is_form over kth.known c.args.level c.child_block-child.result
     (kth_placed form g.met.R.Record.is_form over c.args.level c.args.n c.args.k c.child_block-child.result kth) in
-    c.count_of.ensures.count ∙ ap count_in c.block.ensures ∙ size.0 ∙ ap (item_count form over c.args.level) kth.is
+    omega (arith, c.count_of.ensures.count, c.block.ensures.count, size.0, ap (item_count form over c.args.level) kth.is)
 
 pub returns-clause-most : goal.returns-clause-most
 returns-clause-most g c =
     let kth = c.child_block-child.ensures.kth in
-    let size = placed_count g.R.Record.form g.met.R.Record.is_form c.args.over.now kth.known c.args.level c.child_block-child.result
-    (kth_placed g.R.Record.form g.met.R.Record.is_form c.args.over.now c.args.level c.args.n c.args.k c.child_block-child.result kth) in
-    omega (arith, c.count_of.ensures.count, ap count_in c.block.ensures, size.0, size.1)
+    let size = placed_count g.R.Record.form g.met.R.Record.is_form c.args.draft.now kth.known c.args.level c.child_block-child.result
+    (kth_placed g.R.Record.form g.met.R.Record.is_form c.args.draft.now c.args.level c.args.n c.args.k c.child_block-child.result kth) in
+    omega (arith, c.count_of.ensures.count, c.block.ensures.count, size.0, size.1)

@@ -11,7 +11,7 @@ pub returns-then-child_count-most_of : goal.returns-then-child_count-most_of
 returns-then-child_count-most_of g c =
     let form = g.R.Record.form in
     let laws = g.met.R.Record.is_form in
-    let over = c.args.over.now in
+    let over = c.args.draft.now in
     let k = c.way_of-k.result in
     let way = c.way_of-k.ensures.way in
     let here = node_in form over c.args.level c.args.n c.requires.here in
@@ -20,7 +20,7 @@ returns-then-child_count-most_of g c =
     (omega (arith, half_is form c.args.level, c.most_of.ensures, c.child_count.ensures.count, c.if-child_count-most_of.true))
 
 pub fill_child-requires-clause-two : goal.fill_child-requires-clause-two
-fill_child-requires-clause-two g c = omega (arith, c.requires.two, node_items g.R.Record.form c.args.over.now c.args.level c.args.n)
+fill_child-requires-clause-two g c = omega (arith, c.requires.two, node_items g.R.Record.form c.args.draft.now c.args.level c.args.n)
 
 pub fill_child-requires-clause-low : goal.fill_child-requires-clause-low
 fill_child-requires-clause-low g c =
@@ -29,7 +29,7 @@ fill_child-requires-clause-low g c =
 pub returns : goal.returns
 returns g c =
     let form = g.R.Record.form in
-    let over = c.args.over.now in
+    let over = c.args.draft.now in
     let way = c.way_of-k.ensures.way in
     let there = subst (λ (l : ℕ). Contains (records_of form over l (c.args.n ∷ [])) c.args.r.now) (one_more c.args.level) c.requires.held in
     c.fill_child.ensures c.args.r.now

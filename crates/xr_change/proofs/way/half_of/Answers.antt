@@ -15,27 +15,27 @@ use Rattle.xr_node.specs.NodeLaws.{length-entries}
 use Rattle.xr_change.proofs.way.half_of.Goals as goal
 
 pub block-requires : goal.block-requires
-block-requires g c = in_pool g.R.Record.form c.args.over.now (c.args.level + 1) c.args.n c.requires.here
+block-requires g c = in_pool g.R.Record.form c.args.draft.now (c.args.level + 1) c.args.n c.requires.here
 
 pub overflow_add-next : goal.overflow_add-next
 overflow_add-next g c =
     let form = g.R.Record.form in
-    let few = node_few form g.met.R.Record.is_form c.args.over.now (c.args.level + 1) c.args.level c.args.n (omega arith)
-    (is_under form c.args.over.now (c.args.level + 1) c.args.n c.requires.here) in
+    let few = node_few form g.met.R.Record.is_form c.args.draft.now (c.args.level + 1) c.args.level c.args.n (omega arith)
+    (is_under form c.args.draft.now (c.args.level + 1) c.args.n c.requires.here) in
     let laws = g.met.R.Record.is_form in
-    search (arith, few, laws.node_few, c.requires.within, node_items form c.args.over.now c.args.level c.args.n, length-entries form (block_at c.args.over.now c.args.n))
+    search (arith, few, laws.node_few, c.requires.within, node_items form c.args.draft.now c.args.level c.args.n, length-entries form (block_at c.args.draft.now c.args.n))
 
 pub low_key_at-requires : goal.low_key_at-requires
 low_key_at-requires g c =
     let form = g.R.Record.form in
-    let few = node_few form g.met.R.Record.is_form c.args.over.now (c.args.level + 1) c.args.level c.args.n (omega arith)
-    (is_under form c.args.over.now (c.args.level + 1) c.args.n c.requires.here) in
-    omega (arith, few, g.met.R.Record.numbers.same_node_max, c.requires.within, node_items form c.args.over.now c.args.level c.args.n, length-entries form (block_at c.args.over.now c.args.n))
+    let few = node_few form g.met.R.Record.is_form c.args.draft.now (c.args.level + 1) c.args.level c.args.n (omega arith)
+    (is_under form c.args.draft.now (c.args.level + 1) c.args.n c.requires.here) in
+    omega (arith, few, g.met.R.Record.numbers.same_node_max, c.requires.within, node_items form c.args.draft.now c.args.level c.args.n, length-entries form (block_at c.args.draft.now c.args.n))
 
 pub returns-then-passes_key-clause-way : goal.returns-then-passes_key-clause-way
 returns-then-passes_key-clause-way g c =
     let form = g.R.Record.form in
-    let over = c.args.over.now in
+    let over = c.args.draft.now in
     let here = node_in form over c.args.level c.args.n c.requires.here in
     let items = node_items form over c.args.level c.args.n in
     let next : c.args.k + 1 ≡ suc c.args.k = omega arith in
@@ -51,14 +51,14 @@ returns-then-passes_key-clause-way g c =
 pub returns-then-passes_key-clause-second : goal.returns-then-passes_key-clause-second
 returns-then-passes_key-clause-second g c = λ d same.
     let form = g.R.Record.form in
-    let over = c.args.over.now in
+    let over = c.args.draft.now in
     passed form over c.args.n (c.args.k + 1) c.args.r.now d true c.block.result.now c.low_key_at.result.now c.passes_key.result c.block.ensures c.low_key_at.ensures.value
     c.passes_key.ensures (omega (arith, node_items form over c.args.level c.args.n, c.requires.within, length-entries form (block_at over c.args.n))) c.if-passes_key.true
 
 pub returns-else-passes_key-clause-way : goal.returns-else-passes_key-clause-way
 returns-else-passes_key-clause-way g c =
     let form = g.R.Record.form in
-    let over = c.args.over.now in
+    let over = c.args.draft.now in
     let here = node_in form over c.args.level c.args.n c.requires.here in
     let items = node_items form over c.args.level c.args.n in
     let next : c.args.k + 1 ≡ suc c.args.k = omega arith in
@@ -71,6 +71,6 @@ returns-else-passes_key-clause-way g c =
 pub returns-else-passes_key-clause-first : goal.returns-else-passes_key-clause-first
 returns-else-passes_key-clause-first g c = λ d same.
     let form = g.R.Record.form in
-    let over = c.args.over.now in
+    let over = c.args.draft.now in
     passed form over c.args.n (c.args.k + 1) c.args.r.now d false c.block.result.now c.low_key_at.result.now c.passes_key.result c.block.ensures c.low_key_at.ensures.value
     c.passes_key.ensures (omega (arith, node_items form over c.args.level c.args.n, c.requires.within, length-entries form (block_at over c.args.n))) c.if-passes_key.false

@@ -1,22 +1,48 @@
-use Rattle.std.proofs.Common.{arith}
+use Rattle.std.proofs.Common.{◌+◌, List, sym, subst, arith}
 use Rattle.xr_blocks.specs.Overlay.{block_at}
-use Rattle.xr_blocks.specs.TreeBlock.{entries_in}
-use Rattle.xr_change.proofs.InTree.{node_in, node_items}
+use Rattle.xr_blocks.specs.TreeBlock.{Entry, entries_in}
+use Rattle.xr_change.proofs.InTree.{in_pool, is_under, node_in, node_items}
 use Rattle.xr_change.proofs.FullWays.{passing_is, way_at}
-use Rattle.xr_lookup.specs.Cuts.{entry_is_before}
+use Rattle.xr_change.proofs.Reading.{read_entries}
+use Rattle.xr_lookup.proofs.DescentLemmas.{node_few, node_parted}
+use Rattle.xr_lookup.specs.Cuts.{IsParted, IsPlaceOf, entry_is_before}
 use Rattle.xr_lookup.specs.declared.cut.Cut.TheVariants.{Behind}
 use Rattle.xr_change.proofs.way.way_of.Goals as goal
+
+pub block-requires : goal.block-requires
+block-requires g c = in_pool g.R.Record.form c.args.draft.now (c.args.level + 1) c.args.n c.requires.here
+
+pub child_place-requires-clause-few : goal.child_place-requires-clause-few
+child_place-requires-clause-few g c =
+    let form = g.R.Record.form in
+    let few = node_few form g.met.R.Record.is_form c.args.draft.now (c.args.level + 1) c.args.level c.args.n (omega arith)
+    (is_under form c.args.draft.now (c.args.level + 1) c.args.n c.requires.here) in
+    omega (arith, few, c.block.ensures.count)
+
+pub child_place-requires-clause-parted : goal.child_place-requires-clause-parted
+child_place-requires-clause-parted g c =
+    let form = g.R.Record.form in
+    let over = c.args.draft.now in
+    subst (IsParted (entry_is_before form (Behind c.args.r.now))) (sym (read_entries form c.block.result.now (block_at over c.args.n) c.block.ensures))
+    (node_parted form g.met.R.Record.is_form over (c.args.level + 1) c.args.level c.args.n (omega arith)
+    (is_under form over (c.args.level + 1) c.args.n c.requires.here) (Behind c.args.r.now))
 
 pub returns-clause-way : goal.returns-clause-way
 returns-clause-way g c =
     let form = g.R.Record.form in
-    let here = node_in form c.args.over.now c.args.level c.args.n c.requires.here in
-    way_at form g.met.R.Record.is_form c.args.over.now c.args.level c.args.n here c.args.r.now c.children_before.result c.saturating_sub.result
-    c.children_before.ensures c.saturating_sub.ensures (omega (arith, c.requires.some, node_items form c.args.over.now c.args.level c.args.n))
+    let over = c.args.draft.now in
+    let here = node_in form over c.args.level c.args.n c.requires.here in
+    let place = subst (λ (es : List Entry). IsPlaceOf (entry_is_before form (Behind c.args.r.now)) es c.child_place.result)
+    (read_entries form c.block.result.now (block_at over c.args.n) c.block.ensures) c.child_place.ensures in
+    way_at form g.met.R.Record.is_form over c.args.level c.args.n here c.args.r.now c.child_place.result c.saturating_sub.result
+    place c.saturating_sub.ensures (omega (arith, c.requires.some, node_items form over c.args.level c.args.n))
 
 pub returns-clause-place : goal.returns-clause-place
 returns-clause-place g c =
     let form = g.R.Record.form in
+    let over = c.args.draft.now in
     let test = entry_is_before form (Behind c.args.r.now) in
-    let place = passing_is test (entries_in form (block_at c.args.over.now c.args.n)) c.children_before.result c.children_before.ensures in
+    let read = subst (λ (es : List Entry). IsPlaceOf test es c.child_place.result)
+    (read_entries form c.block.result.now (block_at over c.args.n) c.block.ensures) c.child_place.ensures in
+    let place = passing_is test (entries_in form (block_at over c.args.n)) c.child_place.result read in
     omega (arith, place, c.saturating_sub.ensures)

@@ -1,8 +1,7 @@
-use Rattle.std.proofs.Common.{◌-◌, ◌*◌, ◌≤◌, ◌++◌, ℕ, List, sym, subst, length, take, drop, ◌∙◌, ap, arith, refl}
+use Rattle.std.proofs.Common.{◌-◌, ◌*◌, ◌≤◌, ◌++◌, ℕ, sym, length, ◌∙◌, ap, arith, refl}
 use Rattle.std.proofs.Math.Nat.{mul-le-mul_right}
 use Rattle.xr_base.specs.Image.{part}
 use Rattle.xr_blocks.specs.TreeBlock.{filled}
-use Rattle.xr_edit.specs.Edit.{IsLeafOf}
 use Rattle.xr_edit.proofs.LeafBuilds.{leaf_gathered, stretch_within, stretch_size}
 use Rattle.xr_edit.proofs.leaf.gather_leaf.Goals as goal
 
@@ -38,10 +37,9 @@ returns g c = λ site place one other xs ys names is_first is_second.
     let form = g.R.Record.form in
     let split = c.split_at_mut-head in
     let size = c.SIZE-size.ensures ∙ sym g.met.R.Record.numbers.same_size in
-    subst (λ (bytes : List ℕ). IsLeafOf form site place (take (c.args.to - c.args.from) (drop c.args.from (xs ++ ys))) bytes) (sym c.seal.ensures)
-    (leaf_gathered form g.met.R.Record.is_form site place c.args.fields.now names _ (length split.result.1.now) c.put_header.new.out c.gather_items.new.out
+    leaf_gathered form g.met.R.Record.is_form site place c.args.fields.now names _ (length split.result.1.now) c.put_header.new.out c.gather_items.new.out
     (c.put_header.ensures site place names) (omega (arith, split.ensures.back_len, c.told-out, c.header_size.ensures))
-    one other xs ys c.args.from c.args.to c.args.first.now c.args.second.now c.record_bytes.result.now c.record_bytes-2.result.now is_first is_second
+    one other xs ys c.args.from c.args.to c.args.first.now c.args.second.now c.record_bytes.result.now c.record_bytes-2.result.now c.told-first c.told-second is_first is_second
     c.record_bytes.ensures.value c.record_bytes-2.ensures.value c.requires.order c.requires.within (omega (arith, c.requires.room, g.met.R.Record.numbers.same_leaf_max)) refl
     (c.gather_items.ensures ∙ ap (λ (n : ℕ). filled (length split.result.1.now)
-    (part (n * c.args.from) (n * c.args.to - n * c.args.from) (c.record_bytes.result.now ++ c.record_bytes-2.result.now))) size))
+    (part (n * c.args.from) (n * c.args.to - n * c.args.from) (c.record_bytes.result.now ++ c.record_bytes-2.result.now))) size)

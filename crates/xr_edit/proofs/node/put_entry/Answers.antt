@@ -1,6 +1,6 @@
 use Rattle.std.proofs.Common.{ℕ, List, sym, subst, refl, arith}
 use Rattle.std.specs.List.{insert}
-use Rattle.xr_edit.specs.Edit.{IsNodeOf}
+use Rattle.xr_edit.specs.Edit.{IsNodeOf, sealed}
 use Rattle.xr_edit.proofs.NodeEdits.{entry_put}
 use Rattle.xr_edit.proofs.node.put_entry.Goals as goal
 
@@ -8,7 +8,7 @@ pub returns : goal.returns
 returns g c = λ site place entries is.
     let form = g.R.Record.form in
     let split = c.split_at_mut-items in
-    subst (λ (bytes : List ℕ). IsNodeOf form site place (insert entries c.args.k (record { key = c.args.key.now; child = c.args.child })) bytes) (sym c.finish.ensures)
+    subst (λ (bytes : List ℕ). IsNodeOf form site place (insert entries c.args.k (record { key = c.args.key.now; child = c.args.child })) (sealed form bytes)) (sym c.put_count.ensures)
     (entry_put form g.met.R.Record.is_form site place entries c.args.block.now c.told-block is c.header_size.result split.result.0.now split.result.1.now
     (record { starts = c.header_size.ensures; heads = split.ensures.front; rests = split.ensures.back })
     c.args.k c.count_of-count.result _ c.args.key.now c.args.child c.put_among.new.items c.count_of-count.ensures.count c.requires.place

@@ -1,14 +1,10 @@
-use Rattle.std.proofs.Common.{ℕ, List, [], sym, subst}
-use Rattle.xr_edit.specs.Edit.{IsNodeOf, with_key}
+use Rattle.std.proofs.Common.{[]}
 use Rattle.xr_edit.proofs.NodeEdits.{entry_keyed}
 use Rattle.xr_edit.proofs.node.set_key.Goals as goal
 
 pub returns : goal.returns
 returns g c = λ site place entries is.
-    let form = g.R.Record.form in
     let split = c.split_at_mut-items in
-    subst (λ (bytes : List ℕ). IsNodeOf form site place (with_key c.args.k c.args.key.now entries) bytes) (sym c.finish.ensures)
-    (entry_keyed form g.met.R.Record.is_form site place entries c.args.block.now c.told-block is c.header_size.result split.result.0.now split.result.1.now
+    entry_keyed g.R.Record.form g.met.R.Record.is_form site place entries c.args.block.now c.told-block is c.header_size.result split.result.0.now split.result.1.now
     (record { starts = c.header_size.ensures; heads = split.ensures.front; rests = split.ensures.back })
-    c.args.k c.count_of-count.result c.args.key.now c.put_over.new.items (record { key = []; child = 0 }) c.count_of-count.ensures.count c.requires.place
-    c.requires.key c.put_over.ensures)
+    c.args.k c.args.key.now c.put_over.new.items (record { key = []; child = 0 }) c.requires.place c.requires.key c.put_over.ensures

@@ -1,0 +1,34 @@
+use Rattle.std.proofs.Common.{◌≡◌, ◌<◌, List, ℕ, true, ap, sym, subst, ◌∙◌, arith}
+use Rattle.xr_blocks.specs.Overlay.{Blocks, block_at, pool_size, with_block}
+use Rattle.xr_change.proofs.Sealing.{block_reads, more_lent, same_lent}
+use Rattle.xr_change.specs.Draft.{ReadsAs, all_sealed, is_edited}
+use Rattle.xr_edit.specs.Edit.{sealed}
+use Rattle.xr_change.proofs.draft.note.Goals as goal
+
+pub returns-then-contains-clause-reads : goal.returns-then-contains-clause-reads
+returns-then-contains-clause-reads g c =
+    block_reads g.R.Record.form c.args.over.now c.args.edited.now.items c.args.n c.requires.within (c.has_blocks.ensures.blocks c.args.n c.requires.within).long
+
+pub returns-then-contains-clause-lent : goal.returns-then-contains-clause-lent
+returns-then-contains-clause-lent g c = λ w.
+    let noted : is_edited c.args.edited.now.items c.args.n ≡ true =
+    ap (λ (es : List ℕ). is_edited es c.args.n) (sym c.deref.ensures.0) ∙ sym c.contains.ensures.value ∙ c.if-contains.true in
+    same_lent g.R.Record.form c.args.over.now c.args.edited.now.items c.args.n w c.has_blocks.ensures.image c.requires.within noted
+
+pub returns-clause-reads : goal.returns-clause-reads
+returns-clause-reads g c =
+    let form = g.R.Record.form in
+    let b = c.make_room.new.over in
+    let n = c.args.n in
+    let within : n < pool_size b = omega (arith, c.make_room.ensures.pool, c.requires.within) in
+    subst (λ (z : Blocks). ReadsAs form (block_at b n) (block_at z n)) c.make_room.ensures.same
+    (block_reads form b c.make_room.new.edited.items n within (c.has_blocks-2.ensures.blocks n within).long)
+
+pub returns-clause-lent : goal.returns-clause-lent
+returns-clause-lent g c = λ w.
+    let form = g.R.Record.form in
+    let b = c.make_room.new.over in
+    let n = c.args.n in
+    ap (λ (es : List ℕ). all_sealed form es (with_block b n w)) c.push.ensures.items
+    ∙ more_lent form b c.make_room.new.edited.items n w c.has_blocks-2.ensures.image (omega (arith, c.make_room.ensures.pool, c.requires.within))
+    ∙ ap (λ (z : Blocks). with_block z n (sealed form w)) c.make_room.ensures.same
