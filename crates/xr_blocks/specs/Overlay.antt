@@ -122,3 +122,7 @@ with_taken b n = record b { free = without_bit b.free n }
 
 abbrev pub with_given : Blocks → ℕ → Blocks
 with_given b n = record b { free = with_bit b.free n }
+
+-- no blocks, in the same place
+abbrev pub emptied : Blocks → Blocks
+emptied b = record b { kept = []; current = []; changed = []; kept_free = []; free = [] }

@@ -2,7 +2,7 @@
 ghost use Rattle.std.specs.Prelude.{◌≡◌, ℕ, ◌+◌, ◌*◌, ◌/◌, ◌%◌, ◌<◌, ◌≤◌, ◌↔◌, true, false, length, vec_len, slice_index, IsNone, IfSome, IfOk};
 ghost use Rattle.std.specs.Borrow.{sem};
 ghost use Rattle.xr_base.specs.Image.{block_of, part};
-ghost use Rattle.xr_blocks.specs.Overlay.{AreBlocks, AreWhole, IsBlock, IsPool, all_dropped, all_kept, block_at, blocks_in, changed_blocks, is_free, opened, owner_of, pool_size, sector_at, with_given, with_taken};
+ghost use Rattle.xr_blocks.specs.Overlay.{AreBlocks, AreWhole, IsBlock, IsPool, all_dropped, all_kept, block_at, blocks_in, changed_blocks, emptied, is_free, opened, owner_of, pool_size, sector_at, with_given, with_taken};
 ghost use Rattle.xr_blocks.specs.Lending.{LendsBlock};
 
 use crate::bits::{clear_bit, first_bit, has_bit, set_bit};
@@ -137,7 +137,8 @@ impl Overlay {
     /// Takes the blocks out, and leaves an overlay of none: for one who holds them as another value while they change, and
     /// puts them back. No memory is taken.
     pub fn take(&mut self) -> Overlay
-        ensures { result ≡ self.old }
+        ensures taken { result ≡ self.old }
+        ensures none { self.new ≡ emptied self.old }
     {
         let alloc = *self.kept.allocator();
         let none = Overlay {

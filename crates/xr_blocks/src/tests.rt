@@ -168,3 +168,16 @@ fn changes_are_dropped_and_kept(rt: HostRuntime) -> Result<(), Fail> {
     assert!(rt; over.changed() == 0 && over.free()[..] == [0xFC]);
     Ok(())
 }
+
+#[test]
+fn blocks_are_taken_out_and_put_back(rt: HostRuntime) -> Result<(), Fail> {
+    let alloc = rt.alloc();
+    let base = vec![in alloc; 7; 8 * 4096]?;
+    let mut over = Overlay::new(alloc, base, 520, &[0xFC])?;
+    let taken = over.take();
+    assert!(rt; over.len() == 0 && over.changed() == 0);
+    over = taken;
+    assert!(rt; over.len() == 8 && over.free()[..] == [0xFC]);
+    assert!(rt; over.block(1)[0] == 7);
+    Ok(())
+}

@@ -1,5 +1,5 @@
 -- A step down in a tree: a child of a node stands in its row, and a change under the node leaves the node in its.
-use Rattle.std.proofs.Common.{◌≡◌, ℕ, zero, suc, ◌+◌, ◌<◌, ◌≤◌, true, false, None, List, [], ◌∷◌, ◌++◌, length, take, drop, refl, sym, ap, ◌∙◌, subst, arith, ⊎_elim}
+use Rattle.std.proofs.Common.{◌≡◌, ℕ, suc, ◌+◌, ◌<◌, ◌≤◌, true, false, None, List, [], ◌∷◌, ◌++◌, length, take, drop, refl, sym, ap, ◌∙◌, subst, arith, ⊎_elim}
 use Rattle.std.proofs.lemmas.Cmp.{tied_itself}
 use Rattle.std.proofs.lemmas.List.{length-map}
 use Rattle.std.proofs.lemmas.List.Elements.{All-contains, Contains-append_cases, Contains-append_left}
@@ -8,14 +8,17 @@ use Rattle.std.specs.declared.cmp.Ordering.TheVariants.{Less}
 use Rattle.xr_blocks.proofs.Times.{found_in}
 use Rattle.xr_blocks.specs.Form.{Form, IsForm}
 use Rattle.xr_blocks.specs.Overlay.{Blocks, block_at, changed_blocks}
-use Rattle.xr_blocks.specs.Rows.{AreRowsOf, IsWholeLeaf, IsWholeNode, half, named_below}
+use Rattle.xr_blocks.specs.Rows.{half, named_below}
 use Rattle.xr_blocks.specs.Tree.{records_of, site_of, tree_held}
-use Rattle.xr_blocks.specs.TreeBlock.{Entry, entries_in, records_in}
+use Rattle.xr_blocks.specs.TreeBlock.{Entry, entries_in}
+use Rattle.xr_change.proofs.Grouping.{row_linked}
+use Rattle.xr_change.proofs.ItemFacts.{whole_least}
 use Rattle.xr_change.proofs.RowBlocks.{alters_same, below, children, least_less, records_under_node}
+use Rattle.xr_change.proofs.InTree.{one_more}
 use Rattle.xr_change.proofs.NodeContext.{children_around, row_has}
 use Rattle.xr_change.proofs.Written.{one_around, unchanged_less}
 use Rattle.xr_change.proofs.SetLemmas.{front_below, inserted_between, removed_between, replaced_between}
-use Rattle.xr_change.specs.Alters.{AreRowsIn}
+use Rattle.xr_change.specs.Alters.{AreRowsIn, IsWholeAt}
 use Rattle.xr_change.specs.Changes.{HasWay}
 use Rattle.xr_change.specs.Regroups.{IsSameUnder}
 use Rattle.xr_change.specs.Sets.{inserted, removed, replaced}
@@ -27,16 +30,11 @@ use Rattle.xr_lookup.specs.UnderLaws.{linked_at}
 module _ {X : Type 0} (form : Form X) (b : Blocks) where
   -- a block of a row has the items that the row asks for
   pub row_least : (least level : ℕ) (pre : List ℕ) (n : ℕ) (post : List ℕ) → AreRowsIn form b least level (pre ++ n ∷ post) → least ≤ item_count form b level n
-  unfolding AreRowsOf
-  row_least least zero pre n post known =
-      let linked = linked_at (IsWholeLeaf form (site_of b) (tree_held form b) least) (block_at b) zero None (pre ++ n ∷ post) None n known.rows
-      (found_in (pre ++ n ∷ post) n (row_has n n pre post refl)) in
-      let whole = linked.2 in subst (λ (m : ℕ). least ≤ length (records_in form (block_at b m))) linked.1 whole.least_items
-  row_least least (suc level) pre n post known =
-      let rows = known.rows in
-      let linked = linked_at (IsWholeNode form (site_of b) (tree_held form b) least) (block_at b) (suc level) None (pre ++ n ∷ post) None n rows.0
-      (found_in (pre ++ n ∷ post) n (row_has n n pre post refl)) in
-      let whole = linked.2 in subst (λ (m : ℕ). least ≤ length (entries_in form (block_at b m))) linked.1 whole.least_items
+  row_least least level pre n post known =
+      let row : List ℕ = pre ++ n ∷ post in
+      let found = linked_at (IsWholeAt form (site_of b) (tree_held form b) level least) (block_at b) level None row None n
+      (row_linked form (site_of b) (block_at b) (tree_held form b) least level row known.rows) (found_in row n (row_has n n pre post refl)) in
+      subst (λ (m : ℕ). least ≤ item_count form b level m) found.1 (whole_least form b level least found.0 found.2)
 
   module _ (level n k : ℕ) (here : IsInTree form b (suc level) n) (within : k < length (entries_in form (block_at b n))) where
     abbrev pub names : List ℕ
@@ -73,35 +71,17 @@ module _ {X : Type 0} (form : Form X) (b : Blocks) where
     pub child_least : half form level ≤ item_count form b level (child_of form b n k)
     child_least = row_least (half form level) level _ (child_of form b n k) _ child_in_rows
 
--- a block whose records stay is in its row still
-pub in_tree_after : {X : Type 0} (form : Form X) (a b : Blocks) (floor level n : ℕ) (here : IsInTree form a level n) → here.least ≤ floor
-    → IsSameUnder form a b floor level n → IsInTree form b level n
-in_tree_after {X = X} form a b floor level n here low same = record {
-  least = here.least;
+-- a block that keeps its records is in its row still, whatever it has of items
+pub in_tree_still : {X : Type 0} (form : Form X) (a b : Blocks) (level n : ℕ) → IsInTree form a level n → IsSameUnder form a b 0 level n → IsInTree form b level n
+in_tree_still {X = X} form a b level n here same = record {
+  least = 0;
   pre = here.pre;
   post = here.post;
-  rows = let alters = same.alters in alters.rows here.least here.pre here.post low here.rows;
+  rows = same.alters.rows 0 here.pre here.post (omega arith) (least_less form a here.least 0 level (here.pre ++ n ∷ here.post) here.rows (omega arith));
   valid = subst (All (λ (x : X). form.is_valid x ≡ true)) (sym same.records) here.valid;
   ascend = subst (AllPairs (λ (x y : X). form.order x y ≡ Less)) (sym same.records) here.ascend;
   agree = subst (AllPairs (λ (x y : X). form.agree x y ≡ true)) (sym same.records) here.agree;
 }
-
--- whatever the row asks of its blocks, it asks nothing
-pub loosened : {X : Type 0} (form : Form X) (b : Blocks) (level n : ℕ) → IsInTree form b level n → IsInTree form b level n
-loosened form b level n here = record {
-  least = 0;
-  pre = here.pre;
-  post = here.post;
-  rows = least_less form b here.least 0 level (here.pre ++ n ∷ here.post) here.rows (omega arith);
-  valid = here.valid;
-  ascend = here.ascend;
-  agree = here.agree;
-}
-
--- so that a block that keeps its records is in its row still, whatever it has of items
-pub in_tree_still : {X : Type 0} (form : Form X) (a b : Blocks) (level n : ℕ) → IsInTree form a level n → IsSameUnder form a b 0 level n → IsInTree form b level n
-unfolding loosened
-in_tree_still form a b level n here same = in_tree_after form a b 0 level n (loosened form a level n here) (omega arith) same
 
 -- the way down to a child, in a node that keeps its records, and what of them the change is one of
 module _ {X : Type 0} (form : Form X) (laws : IsForm form) (s : Blocks) (level n k : ℕ) (here : IsInTree form s (suc level) n) (within : k < length (entries_in form (block_at s n))) where
@@ -153,7 +133,7 @@ module _ {X : Type 0} (form : Form X) (laws : IsForm form) (s : Blocks) (level n
     replaced_there new found = replaced_between form.order laws.total r new front own behind (below_held found) found
 
     -- a record stands under the child on its way
-    pub held_on_way : IsWay form s level n r k → Contains (records_of form s (suc level) (n ∷ [])) r → Contains own r
+    pub held_on_way : IsWay form s level n r k → Contains (records_of form s (level + 1) (n ∷ [])) r → Contains own r
     held_on_way way found =
         let apart : form.order r r ≡ Less → ⊥ = λ less. let lie = sym less ∙ tied_itself laws.total r in absurd cc in
         ⊎_elim
@@ -162,4 +142,4 @@ module _ {X : Type 0} (form : Form X) (laws : IsForm form) (s : Blocks) (level n
         (λ (there : Contains own r). there)
         (λ (after : Contains behind r). absurd (apart (All-contains (λ (x : X). form.order r x ≡ Less) behind r way.behind after)))
         (Contains-append_cases own behind r rest))
-        (Contains-append_cases front (own ++ behind) r (subst (λ (rs : List X). Contains rs r) (records_around form s level n k here within) found))
+        (Contains-append_cases front (own ++ behind) r (rw (one_more level, records_around form s level n k here within) at found))

@@ -1,7 +1,8 @@
 -- A block of a draft that is edited: the edit is told of the block with its checksum, which it may not have yet.
-use Rattle.std.proofs.Common.{◌≡◌, ℕ, zero, suc, List, length, sym, ap, ◌∙◌, subst}
+use Rattle.std.proofs.Common.{◌<◌, ◌≡◌, ℕ, zero, suc, List, length, sym, ap, ◌∙◌, subst}
 use Rattle.xr_blocks.specs.Form.{Form}
-use Rattle.xr_blocks.specs.Overlay.{Blocks, block_at}
+use Rattle.xr_blocks.specs.Overlay.{Blocks, block_at, pool_size, with_block}
+use Rattle.xr_blocks.specs.OverlayLaws.{block_written}
 use Rattle.xr_blocks.specs.Rows.{held_in, key_held, key_of_entries, key_of_records}
 use Rattle.xr_blocks.specs.Tree.{tree_held}
 use Rattle.xr_blocks.specs.TreeBlock.{Entry, Place, Site, tree_block}
@@ -19,6 +20,16 @@ module _ {X : Type 0} (form : Form X) (bytes whole : List ℕ) (reads : ReadsAs 
 
   pub node_read : (entries : List Entry) → IsNodeOf form site place entries whole → IsNodeOf form site place entries (sealed form bytes)
   node_read entries is = subst (IsNodeOf form site place entries) (sym (tree_read _ _ is.identified is.whole)) is
+
+-- a node that is edited
+pub edited_node : {X : Type 0} (form : Form X) (b : Blocks) (n : ℕ) {bytes : List ℕ} (next : List ℕ) (edit : List Entry → List Entry) → n < pool_size b
+    → ReadsAs form bytes (block_at b n)
+    → ((site : Site) (place : Place) (entries : List Entry) → IsNodeOf form site place entries (sealed form bytes) → IsNodeOf form site place (edit entries) (sealed form next))
+    → (site : Site) (place : Place) (entries : List Entry) → IsNodeOf form site place entries (block_at b n)
+    → IsNodeOf form site place (edit entries) (block_at (with_block b n (sealed form next)) n)
+edited_node form b n next edit within reads edited site place entries whole =
+    subst (IsNodeOf form site place (edit entries)) (sym (block_written b n (sealed form next) within))
+    (edited site place entries (node_read form _ _ reads site place entries whole))
 
 -- the key of a block is that of its bytes
 pub key_read : {X : Type 0} (form : Form X) (b : Blocks) (bytes : List ℕ) (level n : ℕ) → ReadsAs form bytes (block_at b n)

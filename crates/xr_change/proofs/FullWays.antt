@@ -4,15 +4,15 @@ use Rattle.std.proofs.Common.{◌≡◌, ℕ, zero, suc, ◌+◌, ◌-◌, ◌<�
 use Rattle.std.proofs.Math.ListN.{get_or-append}
 use Rattle.std.proofs.Math.Seq.{drop-cons}
 use Rattle.std.proofs.lemmas.Bool.Decides.{nat_tests}
-use Rattle.std.proofs.lemmas.Bool.{false_from_ne_true}
+use Rattle.std.proofs.lemmas.Bool.{cond_both}
 use Rattle.std.proofs.lemmas.List.Concat.{flat_map-append}
 use Rattle.std.proofs.lemmas.List.Elements.{All-drop}
 use Rattle.std.proofs.lemmas.List.Folds.{flat_map-map}
 use Rattle.std.proofs.lemmas.List.{drop-map, get_or-drop, length-drop, take-append-drop, take-map, get_or-append-add, length-map, map-append}
 use Rattle.std.specs.Cmp.{IsTotalOrder}
 use Rattle.std.specs.List.{All, AllPairs, flat_map}
-use Rattle.std.specs.Ordering.{is_le, ordering_reverse}
-use Rattle.std.specs.declared.cmp.Ordering.TheVariants.{Less, Equal, Greater}
+use Rattle.std.specs.Ordering.{is_le}
+use Rattle.std.specs.declared.cmp.Ordering.TheVariants.{Less}
 use Rattle.std.specs.declared.cmp.Ordering.{Ordering}
 use Rattle.xr_blocks.proofs.Times.{times_same}
 use Rattle.xr_blocks.specs.Form.{Form, IsForm}
@@ -23,8 +23,9 @@ use Rattle.xr_blocks.specs.TreeBlock.{Entry, count_in, entries_in}
 use Rattle.xr_change.proofs.Descent.{child_in_tree, child_least, names_around}
 use Rattle.xr_change.proofs.InTree.{is_under}
 use Rattle.xr_change.proofs.ItemFacts.{child_at}
-use Rattle.xr_change.proofs.Reading.{read_low_key}
+use Rattle.xr_change.proofs.Reading.{read_key}
 use Rattle.xr_change.proofs.RowBlocks.{HoldSame, times_row, times_under, same_or_other}
+use Rattle.xr_change.proofs.SetLemmas.{place_down}
 use Rattle.xr_change.specs.Draft.{ReadsAs}
 use Rattle.xr_change.specs.Ways.{IsInTree, IsWay, passing, child_of, full_on_way, is_full, item_count, item_most, way_place}
 use Rattle.xr_lookup.proofs.DescentLemmas.{all_ascend, begin, falls, lower_too, node_parted, leaf_is, node_few}
@@ -44,24 +45,10 @@ passing_is test [] (suc k) place = absurd (omega (arith, place.within))
 passing_is test (x ∷ xs) zero place = let fails : test x ≡ false = place.from 0 x (omega arith) (omega arith) in rw fails refl
 passing_is test (x ∷ xs) (suc k) place =
     let passes : test x ≡ true = place.below 0 x (omega arith) (omega arith) in
-    rw passes (ap suc (passing_is test xs k (record {
-      within = omega (arith, place.within);
-      below = λ i d from within. place.below (suc i) d (omega arith) (omega (arith, within));
-      from = λ i d from within. place.from (suc i) d (omega (arith, from)) (omega (arith, within));
-    })))
+    rw passes (ap suc (passing_is test xs k (place_down place)))
 
 above_if : {X : Type 0} (order : X → X → Ordering) (total : IsTotalOrder order) (x r : X) → is_le (order x r) ≡ false → order r x ≡ Less
-above_if order total x r not = total.antisymm r x ∙ turned (order x r) not
-  where
-    turned : (o : Ordering) → is_le o ≡ false → ordering_reverse o ≡ Less
-    turned Less is = cc is
-    turned Equal is = cc is
-    turned Greater is = refl
-
-module _ {X : Type 0} (form : Form X) (b : Blocks) (level : ℕ) where
-  -- the records under some children, one after the other
-  pub records_list : (es : List Entry) → records_of form b level (map (λ (e : Entry). e.child) es) ≡ flat_map (λ (e : Entry). tree_records form b e.child level) es
-  records_list es = row_records (tree_held form b) level (map (λ (e : Entry). e.child) es) ∙ flat_map-map (λ (n : ℕ). tree_records form b n level) (λ (e : Entry). e.child) es
+above_if order total x r not = total.antisymm r x ∙ grind (arith, not)
 
 module _ {X : Type 0} (form : Form X) (laws : IsForm form) (b : Blocks) (level n : ℕ) (here : IsInTree form b (suc level) n) (r : X) where
   abbrev es : List Entry
@@ -70,124 +57,106 @@ module _ {X : Type 0} (form : Form X) (laws : IsForm form) (b : Blocks) (level n
   abbrev under : Entry → List X
   under e = tree_records form b e.child level
 
+  abbrev cs : List ℕ
+  cs = named_below (tree_held form b) n
+
+  abbrev passes : Entry → Bool
+  passes = entry_is_before form (Behind r)
+
+  abbrev Ascends : X → X → Type 0
+  Ascends x y = form.order x y ≡ Less
+
+  abbrev Below : List X → Type 0
+  Below = All (λ (x : X). form.order x r ≡ Less)
+
+  abbrev Above : List X → Type 0
+  Above = All (λ (x : X). form.order r x ≡ Less)
+
   abbrev under_n : IsUnder form b (suc level) n
   under_n = is_under form b (suc level) n here
 
-  starts : All (Begins under (entry_is_before form (Behind r)) (is_before form (Behind r))) es
+  starts : All (Begins under passes (is_before form (Behind r))) es
   starts = begin form laws b (suc level) level n refl under_n (Behind r)
 
-  rises : AllPairs (λ (x y : X). form.order x y ≡ Less) (flat_map under es)
+  rises : AllPairs Ascends (flat_map under es)
   rises = all_ascend form laws b (suc level) level n refl under_n
 
-  -- records under a child that begins in front of the place, and those before them
-  in_front : (k : ℕ) → k < length es → ((d : Entry) → entry_is_before form (Behind r) (get_or es k d) ≡ true) → All (λ (x : X). form.order x r ≡ Less) (flat_map under (take k es))
-  in_front k within passes m e inside =
+  -- the records under some children, one after the other
+  records_list : (xs : List Entry) → records_of form b level (map (λ (e : Entry). e.child) xs) ≡ flat_map under xs
+  records_list xs = row_records (tree_held form b) level (map (λ (e : Entry). e.child) xs) ∙ flat_map-map (λ (m : ℕ). tree_records form b m level) (λ (e : Entry). e.child) xs
+
+  -- those in front of a child that begins in front of the record
+  in_front : (k : ℕ) → k < length es → ((d : Entry) → 1 ≤ k → passes (get_or es k d) ≡ true) → Below (records_of form b level (take k cs))
+  in_front k within test = subst Below (sym (ap (records_of form b level) (take-map (λ (e : Entry). e.child) k es) ∙ records_list (take k es))) (λ m e inside.
       let d : Entry = record { key = []; child = 0 } in
       let own = starts k d within in
-      let cut = cut_at {E = Entry} {X = X} (λ (x y : X). form.order x y ≡ Less) under (entry_is_before form (Behind r)) (is_before form (Behind r)) (falls form laws (Behind r)) es k d within in
-      let all = pairs_before (λ (x y : X). form.order x y ≡ Less) (flat_map under (take k es)) own.first (own.others ++ flat_map under (drop (suc k) es))
-      (subst (λ (xs : List X). AllPairs (λ (x y : X). form.order x y ≡ Less) (flat_map under (take k es) ++ (xs ++ flat_map under (drop (suc k) es)))) own.part
-      (subst (AllPairs (λ (x y : X). form.order x y ≡ Less)) cut rises)) in
-      lower_too form.order laws.total (get_or (flat_map under (take k es)) m e) own.first r (form.order own.first r) refl (sym own.same ∙ passes d) (all m e inside)
+      let some : 1 ≤ k = same_or_other k 0 (λ none. absurd (omega (arith, subst (λ (j : ℕ). m < length (flat_map under (take j es))) none inside))) (λ more. omega (arith, more)) in
+      let cut = cut_at {E = Entry} {X = X} Ascends under passes (is_before form (Behind r)) (falls form laws (Behind r)) es k d within in
+      let all = pairs_before Ascends (flat_map under (take k es)) own.first (own.others ++ flat_map under (drop (suc k) es))
+      (subst (λ (xs : List X). AllPairs Ascends (flat_map under (take k es) ++ (xs ++ flat_map under (drop (suc k) es)))) own.part (subst (AllPairs Ascends) cut rises)) in
+      lower_too form.order laws.total (get_or (flat_map under (take k es)) m e) own.first r (form.order own.first r) refl (sym own.same ∙ test d some) (all m e inside))
 
-  parts : (k : ℕ) → flat_map under es ≡ flat_map under (take k es) ++ flat_map under (drop k es)
-  parts k = ap (flat_map under) (sym (take-append-drop k es)) ∙ flat_map-append under (take k es) (drop k es)
-
-  -- records under children that begin behind it
-  behind_all : (k : ℕ) → ((i : ℕ) (d : Entry) → k ≤ i → i < length es → entry_is_before form (Behind r) (get_or es i d) ≡ false)
-      → All (λ (x : X). form.order r x ≡ Less) (flat_map under (drop k es))
-  behind_all k fails m e inside =
-      let pairs : AllPairs (λ (x y : X). form.order x y ≡ Less) (flat_map under (drop k es)) =
-      pairs_right (λ (x y : X). form.order x y ≡ Less) (flat_map under (take k es)) (flat_map under (drop k es))
-      (subst (AllPairs (λ (x y : X). form.order x y ≡ Less)) (parts k) rises) in
-      let none = all_fail (λ (x y : X). form.order x y ≡ Less) under (entry_is_before form (Behind r)) (is_before form (Behind r)) (falls form laws (Behind r)) (drop k es)
-      (All-drop (Begins under (entry_is_before form (Behind r)) (is_before form (Behind r))) k es starts) pairs
+  -- those under children that begin behind it
+  behind_all : (k : ℕ) → ((i : ℕ) (d : Entry) → k ≤ i → i < length es → passes (get_or es i d) ≡ false) → Above (records_of form b level (drop k cs))
+  behind_all k fails = subst Above (sym (ap (records_of form b level) (drop-map (λ (e : Entry). e.child) k es) ∙ records_list (drop k es))) (λ m e inside.
+      let pairs : AllPairs Ascends (flat_map under (drop k es)) =
+      pairs_right Ascends (flat_map under (take k es)) (flat_map under (drop k es))
+      (subst (AllPairs Ascends) (ap (flat_map under) (sym (take-append-drop k es)) ∙ flat_map-append under (take k es) (drop k es)) rises) in
+      let none = all_fail Ascends under passes (is_before form (Behind r)) (falls form laws (Behind r)) (drop k es)
+      (All-drop (Begins under passes (is_before form (Behind r))) k es starts) pairs
       (λ i d within.
       let there : k + i < length es = omega (arith, within, length-drop k es) in
       rw (get_or-drop k es i d) (fails (k + i) d (omega arith) there)) in
-      above_if form.order laws.total (get_or (flat_map under (drop k es)) m e) r (none m e inside)
+      above_if form.order laws.total (get_or (flat_map under (drop k es)) m e) r (none m e inside))
 
-  way_parts : (k : ℕ) → k < length es → All (λ (x : X). form.order x r ≡ Less) (flat_map under (take k es))
-      → All (λ (x : X). form.order r x ≡ Less) (flat_map under (drop (suc k) es)) → IsWay form b level n r k
-  way_parts k within front behind = record {
-    within = within;
-    before = subst (All (λ (x : X). form.order x r ≡ Less)) (sym (records_list form b level (take k es)) ∙ ap (records_of form b level) (sym (take-map (λ (e : Entry). e.child) k es))) front;
-    behind = subst (All (λ (x : X). form.order r x ≡ Less))
-        (sym (records_list form b level (drop (suc k) es)) ∙ ap (records_of form b level) (sym (drop-map (λ (e : Entry). e.child) (suc k) es))) behind;
-  }
-
-  pub way_at : (p k : ℕ) → IsPlaceOf (entry_is_before form (Behind r)) es p → k ≡ p - 1 → 1 ≤ length es → IsWay form b level n r k
-  way_at zero k place is some =
-      let none : k ≡ 0 = omega (arith, is) in
-      way_parts k (omega (arith, none, some))
-      (subst (λ (j : ℕ). All (λ (x : X). form.order x r ≡ Less) (flat_map under (take j es))) (sym none) (λ i d within. absurd (omega (arith, within))))
-      (behind_all (suc k) (λ i d from within. place.from i d (omega arith) within))
-  way_at (suc p) k place is some =
-      let same : k ≡ p = omega (arith, is) in
-      way_parts k (omega (arith, same, place.within))
-      (in_front k (omega (arith, same, place.within)) (λ d. place.below k d (omega arith) (omega (arith, same))))
-      (behind_all (suc k) (λ i d from within. place.from i d (omega (arith, same, from)) within))
+  pub way_at : (p k : ℕ) → IsPlaceOf passes es p → k ≡ p - 1 → 1 ≤ length es → IsWay form b level n r k
+  way_at p k place is some =
+      let within : k < length es = omega (arith, is, some, place.within) in
+      record {
+        within = within;
+        before = in_front k within (λ d more. place.below k d (omega arith) (omega (arith, is, more)));
+        behind = behind_all (suc k) (λ i d from inside. place.from i d (omega (arith, is, from)) inside);
+      }
 
   -- of two children, by whether the second begins in front of the record
-  pub way_second : (k : ℕ) → suc k < length es → ((d : Entry) → entry_is_before form (Behind r) (get_or es (suc k) d) ≡ true)
-      → All (λ (x : X). form.order r x ≡ Less) (records_of form b level (drop (suc (suc k)) (named_below (tree_held form b) n))) → IsWay form b level n r (suc k)
-  way_second k within passes behind = record {
+  pub way_second : (k : ℕ) → k + 1 < length es → ((d : Entry) → passes (get_or es (k + 1) d) ≡ true) → Above (records_of form b level (drop (k + 2) cs))
+      → IsWay form b level n r (k + 1)
+  way_second k within test behind = record {
     within = within;
-    before = subst (All (λ (x : X). form.order x r ≡ Less))
-        (sym (records_list form b level (take (suc k) es)) ∙ ap (records_of form b level) (sym (take-map (λ (e : Entry). e.child) (suc k) es))) (in_front (suc k) within passes);
-    behind = behind;
+    before = in_front (k + 1) within (λ d more. test d);
+    behind = let place : k + 2 ≡ suc (k + 1) = omega arith in subst (λ (j : ℕ). Above (records_of form b level (drop j cs))) place behind;
   }
 
-  pub way_first : (k : ℕ) → suc k < length es → ((d : Entry) → entry_is_before form (Behind r) (get_or es (suc k) d) ≡ false)
-      → All (λ (x : X). form.order x r ≡ Less) (records_of form b level (take k (named_below (tree_held form b) n))) → IsWay form b level n r k
+  pub way_first : (k : ℕ) → k + 1 < length es → ((d : Entry) → passes (get_or es (k + 1) d) ≡ false) → Below (records_of form b level (take k cs)) → IsWay form b level n r k
   way_first k within fails before = record {
     within = omega (arith, within);
     before = before;
-    behind = subst (All (λ (x : X). form.order r x ≡ Less))
-        (sym (records_list form b level (drop (suc k) es)) ∙ ap (records_of form b level) (sym (drop-map (λ (e : Entry). e.child) (suc k) es)))
-        (behind_all (suc k) (λ i d from inside. false_from_ne_true _ (λ passes.
-        let parts = node_parted form laws b (suc level) level n refl under_n (Behind r) in
-        same_or_other i (suc k)
-        (λ same. let both = subst (λ (j : ℕ). entry_is_before form (Behind r) (get_or es j d) ≡ true) same passes in
-        let lie = sym both ∙ fails d in absurd cc)
-        (λ other.
-        let lie = sym (parts (suc k) i d (omega (arith, from, other)) inside passes) ∙ fails d in absurd cc))));
+    behind = behind_all (suc k) (λ i d from inside. grind (arith, from, inside, fails d, node_parted form laws b (suc level) level n refl under_n (Behind r) (k + 1) i d));
   }
 
 -- whether a child begins in front of a record, as its key is read
-pub passed : {X : Type 0} (form : Form X) (b : Blocks) (n k : ℕ) (r : X) (d : Entry) (is : Bool) (bytes low : List ℕ) (found : Bool) → ReadsAs form bytes (block_at b n)
-    → low ≡ low_key_in form k bytes → found ≡ key_is_before form (Behind r) low → k < count_in (block_at b n) → found ≡ is
-    → entry_is_before form (Behind r) (get_or (entries_in form (block_at b n)) k d) ≡ is
-passed form b n k r d is bytes low found reads read test within same =
+pub passed : {X : Type 0} (form : Form X) (b : Blocks) (n k : ℕ) (r : X) {bytes low : List ℕ} {found : Bool} → ReadsAs form bytes (block_at b n) → low ≡ low_key_in form k bytes
+    → found ≡ key_is_before form (Behind r) low → k < count_in (block_at b n) → (d : Entry) → entry_is_before form (Behind r) (get_or (entries_in form (block_at b n)) k d) ≡ found
+passed form b n k r reads read test within d =
     ap (entry_is_before form (Behind r)) (entry_read form (block_at b n) k d within)
-    ∙ ap (key_is_before form (Behind r)) (sym (read ∙ read_low_key form bytes (block_at b n) reads k)) ∙ sym test ∙ same
-
-if_most : (test : Bool) (m n : ℕ) → m ≤ n → (if test then suc m else 0) ≤ suc n
-if_most true m n few = omega (arith, few)
-if_most false m n few = omega arith
+    ∙ ap (key_is_before form (Behind r)) (sym (read ∙ ap (take form.low) (read_key form _ (block_at b n) reads k))) ∙ sym test
 
 module _ {A : Type 0} (test : A → Bool) where
   pub passing_most : (xs : List A) → passing test xs ≤ length xs
   unfolding passing
   passing_most [] = omega arith
-  passing_most (x ∷ xs) = if_most (test x) (passing test xs) (length xs) (passing_most xs)
-
-  passing_front : (xs ys : List A) → passing test ys ≡ 0 → passing test (xs ++ ys) ≡ passing test xs
-  unfolding passing
-  passing_front [] ys none = none
-  passing_front (x ∷ xs) ys none = ap (λ (n : ℕ). if test x then suc n else 0) (passing_front xs ys none)
-
-  passing_behind : (xs ys : List A) → All (λ (x : A). test x ≡ true) xs → passing test (xs ++ ys) ≡ length xs + passing test ys
-  unfolding passing
-  passing_behind [] ys all = omega arith
-  passing_behind (x ∷ xs) ys all =
-      let rest = passing_behind xs ys (λ k d within. all (suc k) d (omega (arith, within))) in
-      rw (all 0 x (omega arith)) (omega (arith, rest))
+  passing_most (x ∷ xs) = cond_both (test x) (suc (passing test xs)) 0 (λ (m : ℕ). m ≤ suc (length xs)) (λ is. omega (arith, passing_most xs)) (λ is. omega arith)
 
   -- the last item that passes, by the first of the second part
   front_fails : (xs : List A) (y : A) (ys : List A) → test y ≡ false → passing test (xs ++ y ∷ ys) ≡ passing test xs
   unfolding passing
-  front_fails xs y ys fails = passing_front xs (y ∷ ys) (rw fails refl)
+  front_fails [] y ys fails = rw fails refl
+  front_fails (x ∷ xs) y ys fails = ap (λ (n : ℕ). if test x then suc n else 0) (front_fails xs y ys fails)
+
+  passing_behind : (xs ys : List A) → All (λ (x : A). test x ≡ true) xs → passing test (xs ++ ys) ≡ length xs + passing test ys
+  unfolding passing
+  passing_behind [] ys all = omega arith
+  passing_behind (x ∷ xs) ys all = grind (arith, all 0 x (omega arith), passing_behind xs ys (λ k d within. all (suc k) d (omega (arith, within))))
 
   behind_passes : (xs : List A) (y : A) (ys : List A) → IsParted test (xs ++ y ∷ ys) → test y ≡ true
       → passing test (xs ++ y ∷ ys) - 1 ≡ length xs + (passing test (y ∷ ys) - 1)
@@ -213,9 +182,8 @@ module _ {X : Type 0} (form : Form X) (r : X) where
   way_in_front xs [] some more fails = absurd (omega (arith, more))
   way_in_front xs (y ∷ ys) some more fails =
       let place : way_place form r (xs ++ y ∷ ys) ≡ way_place form r xs = ap (λ (n : ℕ). n - 1) (front_fails (entry_is_before form (Behind r)) xs y ys (fails y)) in
-      ap (λ (k : ℕ). get_or (names (xs ++ y ∷ ys)) k 0) place
-      ∙ ap (λ (ms : List ℕ). get_or ms (way_place form r xs) 0) (map-append (λ (e : Entry). e.child) xs (y ∷ ys))
-      ∙ get_or-append (names xs) (names (y ∷ ys)) 0 (way_place form r xs) (omega (arith, way_within xs some, length-map xs (λ (e : Entry). e.child)))
+      let kept = get_or-append (names xs) (names (y ∷ ys)) 0 (way_place form r xs) (omega (arith, way_within xs some, length-map xs (λ (e : Entry). e.child))) in
+      cc (place, kept, map-append (λ (e : Entry). e.child) xs (y ∷ ys))
 
   pub way_behind : (xs ys : List Entry) → 1 ≤ length ys → IsParted (entry_is_before form (Behind r)) (xs ++ ys)
       → ((d : Entry) → entry_is_before form (Behind r) (get_or ys 0 d) ≡ true) → way_child (xs ++ ys) ≡ way_child ys
@@ -224,9 +192,7 @@ module _ {X : Type 0} (form : Form X) (r : X) where
       let long : length (names xs) ≡ length xs = length-map xs (λ (e : Entry). e.child) in
       let place : way_place form r (xs ++ y ∷ ys) ≡ length (names xs) + way_place form r (y ∷ ys) =
       behind_passes (entry_is_before form (Behind r)) xs y ys parted (passes y) ∙ ap (λ (n : ℕ). n + way_place form r (y ∷ ys)) (sym long) in
-      ap (λ (k : ℕ). get_or (names (xs ++ y ∷ ys)) k 0) place
-      ∙ ap (λ (ms : List ℕ). get_or ms (length (names xs) + way_place form r (y ∷ ys)) 0) (map-append (λ (e : Entry). e.child) xs (y ∷ ys))
-      ∙ get_or-append-add (names xs) (names (y ∷ ys)) (way_place form r (y ∷ ys)) 0
+      cc (place, map-append (λ (e : Entry). e.child) xs (y ∷ ys), get_or-append-add (names xs) (names (y ∷ ys)) (way_place form r (y ∷ ys)) 0)
 
 -- 1 for a full block
 abbrev pub full_mark : ℕ → ℕ → ℕ
@@ -238,33 +204,29 @@ full_one count most same = grind (arith, nat_tests)
 pub full_none : (count most : ℕ) → count < most → full_mark count most ≡ 0
 full_none count most less = grind (arith, nat_tests)
 
--- whether a block is full, as its count is read
-pub full_leaf : {X : Type 0} (form : Form X) (laws : IsForm form) (b : Blocks) (level n : ℕ) → IsInTree form b level n → level ≡ 0 → (count most : ℕ) (bytes : List ℕ)
-    → count ≡ count_in bytes → ReadsAs form bytes (block_at b n) → form.leaf_max ≡ most → (count == most) ≡ is_full form b level n
-full_leaf form laws b level n here leaf count most bytes read reads same =
-    let at_zero : IsInTree form b zero n = subst (λ (l : ℕ). IsInTree form b l n) leaf here in
-    let whole = leaf_is form laws b n (is_under form b zero n at_zero) in
-    let counted : count ≡ item_count form b zero n = read ∙ reads.count ∙ sym whole.counted in
-    ap (λ (x : ℕ). x == most) counted ∙ ap (λ (x : ℕ). item_count form b zero n == x) (sym same) ∙ ap (λ (l : ℕ). is_full form b l n) (sym leaf)
+-- how many items a block of a tree has is what is read of it, and whether it is full
+pub counted : {X : Type 0} (form : Form X) (laws : IsForm form) (b : Blocks) (level n : ℕ) → IsInTree form b level n
+    → (count_in (block_at b n) ≡ item_count form b level n) × (item_count form b level n ≤ item_most form level)
+counted form laws b zero n here = let whole = leaf_is form laws b n (is_under form b zero n here) in (sym whole.counted, omega (arith, whole.counted, whole.few))
+counted form laws b (suc level) n here =
+    let few = node_few form laws b (suc level) level n refl (is_under form b (suc level) n here) in
+    (sym (length-entries form (block_at b n)), omega (arith, few, length-entries form (block_at b n)))
 
-pub full_node : {X : Type 0} (form : Form X) (b : Blocks) (level n : ℕ) → (level ≡ 0 → ⊥) → (count most : ℕ) (bytes : List ℕ)
-    → count ≡ count_in bytes → ReadsAs form bytes (block_at b n) → form.node_max ≡ most → (count == most) ≡ is_full form b level n
-full_node form b zero n node count most bytes read reads same = absurd (node refl)
-full_node form b (suc level) n node count most bytes read reads same =
-    let counted : count ≡ item_count form b (suc level) n = read ∙ reads.count ∙ sym (length-entries form (block_at b n)) in
-    ap (λ (x : ℕ). x == most) counted ∙ ap (λ (x : ℕ). item_count form b (suc level) n == x) (sym same)
+pub full_read : {X : Type 0} (form : Form X) (laws : IsForm form) (b : Blocks) (level n : ℕ) → IsInTree form b level n → {bytes : List ℕ} (count most : ℕ)
+    → count ≡ count_in bytes → ReadsAs form bytes (block_at b n) → most ≡ item_most form level → (count == most) ≡ is_full form b level n
+full_read form laws b level n here count most read reads same =
+    ap (λ (x : ℕ). x == most) (read ∙ reads.count ∙ (counted form laws b level n here).0) ∙ ap (λ (x : ℕ). item_count form b level n == x) same
+
+pub most_of_node : {X : Type 0} (form : Form X) (level : ℕ) → (level ≡ 0 → ⊥) → form.node_max ≡ item_most form level
+most_of_node form zero node = absurd (node refl)
+most_of_node form (suc level) node = refl
 
 pub full_if : {X : Type 0} (form : Form X) (b : Blocks) (level n : ℕ) → is_full form b level n ≡ true → item_count form b level n ≡ item_most form level
 full_if form b level n is = grind (arith, nat_tests)
 
-module _ {X : Type 0} (form : Form X) (laws : IsForm form) (b : Blocks) where
-  most_items : (level n : ℕ) → IsInTree form b level n → item_count form b level n ≤ item_most form level
-  most_items zero n here = let whole = leaf_is form laws b n (is_under form b zero n here) in omega (arith, whole.counted, whole.few)
-  most_items (suc level) n here =
-      omega (arith, node_few form laws b (suc level) level n refl (is_under form b (suc level) n here), length-entries form (block_at b n))
-
-  pub room_if : (level n : ℕ) → IsInTree form b level n → is_full form b level n ≡ false → item_count form b level n < item_most form level
-  room_if level n here not = let few = most_items level n here in grind (arith, nat_tests)
+pub room_if : {X : Type 0} (form : Form X) (laws : IsForm form) (b : Blocks) (level n : ℕ) → IsInTree form b level n → is_full form b level n ≡ false
+    → item_count form b level n < item_most form level
+room_if form laws b level n here not = let few = counted form laws b level n here in grind (arith, nat_tests, few.1)
 
 module _ {X : Type 0} (form : Form X) (laws : IsForm form) (r : X) where
   -- a full block counts
@@ -319,7 +281,3 @@ first_passes {X = X} form laws b level n k r here within d d' =
     ∙ ap (λ (xs : List X). xs ++ flat_map under (drop 1 es)) first.part in
     let head : own.first ≡ first.first = ap (λ (xs : List X). get_or xs 0 own.first) same in
     first.same ∙ ap (is_before form (Behind r)) (sym head) ∙ sym own.same
-
-pub full_most : (full : Bool) → (if full then 1 else 0) ≤ 1
-full_most true = omega arith
-full_most false = omega arith

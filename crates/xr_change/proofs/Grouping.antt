@@ -1,9 +1,8 @@
 -- Two rows whose blocks hold the same items, one block after the other: what stands below them is the same.
-use Rattle.std.proofs.Common.{◌≡◌, ℕ, zero, suc, ◌+◌, ◌≤◌, None, List, [], ◌∷◌, ◌++◌, map, get_or, refl, sym, ap, ◌∙◌, subst, arith}
+use Rattle.std.proofs.Common.{◌≡◌, ℕ, zero, suc, ◌+◌, ◌≤◌, None, List, [], ◌∷◌, ◌++◌, map, get_or, refl, sym, ap, ◌∙◌, subst, arith, All, flat_map}
 use Rattle.std.proofs.lemmas.List.{get_or-map, length-map, map-append}
 use Rattle.std.proofs.lemmas.List.Concat.{flat_map-append}
 use Rattle.std.proofs.lemmas.List.Elements.{All-append}
-use Rattle.std.specs.List.{All, flat_map}
 use Rattle.xr_blocks.specs.Form.{Form}
 use Rattle.xr_blocks.specs.FrameLaws.{are_rows_same, flat_map_same, leaf_same, node_same}
 use Rattle.xr_blocks.specs.Overlay.{Blocks, block_at}
@@ -11,7 +10,7 @@ use Rattle.xr_blocks.specs.Rows.{AreLinked, AreNamed, AreRowsOf, Held, half, key
 use Rattle.xr_blocks.specs.Times.{times}
 use Rattle.xr_blocks.specs.Tree.{blocks_of, records_of, tree_held}
 use Rattle.xr_blocks.specs.TreeBlock.{Entry, Place, Site}
-use Rattle.xr_blocks.proofs.Times.{times_at, times_of}
+use Rattle.xr_blocks.proofs.Times.{times_of}
 use Rattle.xr_change.specs.Alters.{HoldsSame, IsWholeAt}
 use Rattle.xr_change.specs.Regroups.{HaveSameItems, blocks_below, items_in}
 use Rattle.xr_change.proofs.RowBlocks.{blocks_same, children, holds_same, key_same, records_same, times_append, times_below, times_blocks_append, times_leaves, times_row}
@@ -21,18 +20,14 @@ use Rattle.xr_lookup.specs.UnderLaws.{same_each}
 -- the children that some blocks name are those of their entries
 pub named_flat : {X : Type 0} (held : Held X) (row : List ℕ) → flat_map (named_below held) row ≡ map (λ (e : Entry). e.child) (flat_map held.entries row)
 named_flat held [] = refl
-named_flat held (n ∷ ns) =
-    ap (λ (xs : List ℕ). named_below held n ++ xs) (named_flat held ns)
-    ∙ sym (map-append (λ (e : Entry). e.child) (held.entries n) (flat_map held.entries ns))
+named_flat held (n ∷ ns) = rw (named_flat held ns) (sym (map-append (λ (e : Entry). e.child) (held.entries n) (flat_map held.entries ns)))
 
 -- each entry has the key of its child
 pub each_key : (key : ℕ → List ℕ) (es : List Entry) → All (λ (e : Entry). e.key ≡ key e.child) es
     → map (λ (e : Entry). e.key) es ≡ map key (map (λ (e : Entry). e.child) es)
 each_key key [] all = refl
 each_key key (e ∷ es) all =
-    let first : e.key ≡ key e.child = all 0 e (omega arith) in
-    let rest = each_key key es (λ k d within. all (suc k) d (omega arith)) in
-    rw (first, rest) refl
+    rw (all 0 e (omega arith), each_key key es (λ k d within. all (suc k) d (omega arith))) refl
 
 module _ {X : Type 0} (form : Form X) (held : Held X) (level : ℕ) where
   abbrev pub HasKey : Entry → Type 0
@@ -59,11 +54,8 @@ pub keys_stay : {X : Type 0} (form : Form X) (held held' : Held X) (level : ℕ)
     → All (HasKey form held level) es → All (HasKey form held' level) es
 keys_stay form held held' level es same all k d within =
     let e = get_or es k d in
-    let child : get_or (map (λ (entry : Entry). entry.child) es) k e.child ≡ e.child = get_or-map (λ (entry : Entry). entry.child) es k d e.child within in
-    let there : 1 ≤ times e.child (map (λ (entry : Entry). entry.child) es) =
-    subst (λ (m : ℕ). 1 ≤ times m (map (λ (entry : Entry). entry.child) es)) child
-    (times_at (map (λ (entry : Entry). entry.child) es) k e.child (omega (arith, within, length-map es (λ (entry : Entry). entry.child)))) in
-    all k d within ∙ sym (same e.child there)
+    let child : Entry → ℕ = λ entry. entry.child in
+    all k d within ∙ sym (same e.child (times_of (map child es) e.child (k, omega (arith, within, length-map es child), get_or-map child es k d e.child within)))
 
 pub times_rows : {X : Type 0} (form : Form X) (b : Blocks) (m level : ℕ) (row : List ℕ)
     → times m (blocks_of form b level row) ≡ times m row + times m (blocks_below form b level row)
@@ -72,15 +64,7 @@ times_rows form b m (suc level) row = times_below form b m level row
 
 pub times_rest_append : {X : Type 0} (form : Form X) (b : Blocks) (m level : ℕ) (xs ys : List ℕ)
     → times m (blocks_below form b level (xs ++ ys)) ≡ times m (blocks_below form b level xs) + times m (blocks_below form b level ys)
-times_rest_append form b m level xs ys =
-    omega (
-      arith,
-      times_rows form b m level (xs ++ ys),
-      times_rows form b m level xs,
-      times_rows form b m level ys,
-      times_blocks_append form b m level xs ys,
-      times_append m xs ys,
-    )
+times_rest_append {X = X} form b m level xs ys = omega (arith, times_rows {X = X}, times_blocks_append form b m level xs ys, times_append)
 
 -- the first row of some is linked
 pub row_linked : {X : Type 0} (form : Form X) (site : Site) (at : ℕ → List ℕ) (held : Held X) (least level : ℕ) (row : List ℕ)
@@ -91,7 +75,7 @@ row_linked form site at held least (suc level) row rows = rows.0
 
 -- the same items
 module _ {X : Type 0} (form : Form X) (before after : Blocks) where
-  item_same : (level m : ℕ) → HoldsSame form before after m → items_in form level (block_at after m) ≡ items_in form level (block_at before m)
+  pub item_same : (level m : ℕ) → HoldsSame form before after m → items_in form level (block_at after m) ≡ items_in form level (block_at before m)
   unfolding items_in
   item_same zero m same = same.same_records
   item_same (suc level) m same = same.same_entries
@@ -115,16 +99,6 @@ module _ {X : Type 0} (form : Form X) (before after : Blocks) where
   whole_same site least (suc level) place same whole = node_same form (block_at before) (block_at after) site least place same whole
 
   module _ (row row' : List ℕ) where
-    -- the nodes of both name the same children with the same keys
-    pub named_regrouped : (level : ℕ) → flat_map (tree_held form after).entries row' ≡ flat_map (tree_held form before).entries row
-        → ((m : ℕ) → 1 ≤ times m (children form before row) → HoldsSame form before after m)
-        → AreNamed form (tree_held form before) level row → AreNamed form (tree_held form after) level row'
-    named_regrouped level items same named =
-        entries_named form (tree_held form after) level row' (subst (All (HasKey form (tree_held form after) level)) (sym items)
-        (keys_stay form (tree_held form before) (tree_held form after) level (flat_map (tree_held form before).entries row)
-        (λ m some. key_same form before after level m (same m (subst (λ (ms : List ℕ). 1 ≤ times m ms) (sym (named_flat (tree_held form before) row)) some)))
-        (named_entries form (tree_held form before) level row named)))
-
     below_same : (level : ℕ) → HaveSameItems form before after (suc level) row row' → children form after row' ≡ children form before row
     unfolding items_in
     below_same level items =
@@ -136,8 +110,7 @@ module _ {X : Type 0} (form : Form X) (before after : Blocks) where
         → blocks_below form after level row' ≡ blocks_below form before level row
     rest_regrouped zero items same = refl
     rest_regrouped (suc level) items same =
-        ap (blocks_of form after level) (below_same level items)
-        ∙ blocks_same form before after level (children form before row) (λ m some. holds_same form before after m (same m some))
+        rw (below_same level items) (blocks_same form before after level (children form before row) (λ m some. holds_same form before after m (same m some)))
 
     pub records_regrouped : (level : ℕ) → HaveSameItems form before after level row row'
         → ((m : ℕ) → 1 ≤ times m (blocks_below form before level row) → block_at after m ≡ block_at before m)
@@ -145,8 +118,7 @@ module _ {X : Type 0} (form : Form X) (before after : Blocks) where
     unfolding items_in leaves_from
     records_regrouped zero items same = items
     records_regrouped (suc level) items same =
-        ap (records_of form after level) (below_same level items)
-        ∙ records_same form before after level (children form before row) (λ m some. holds_same form before after m (same m some))
+        rw (below_same level items) (records_same form before after level (children form before row) (λ m some. holds_same form before after m (same m some)))
 
     pub rows_regrouped : (site : Site) (least level : ℕ) → HaveSameItems form before after level row row'
         → ((m : ℕ) → 1 ≤ times m (blocks_below form before level row) → block_at after m ≡ block_at before m)
@@ -157,8 +129,12 @@ module _ {X : Type 0} (form : Form X) (before after : Blocks) where
     rows_regrouped site least zero items same linked rows = linked
     rows_regrouped site least (suc level) items same linked rows = (
       linked,
-      named_regrouped level items
-          (λ m some. holds_same form before after m (same m (omega (arith, some, times_row form before m level (children form before row))))) rows.1,
+      -- the nodes of both name the same children with the same keys
+      entries_named form (tree_held form after) level row' (subst (All (HasKey form (tree_held form after) level)) (sym items)
+          (keys_stay form (tree_held form before) (tree_held form after) level (flat_map (tree_held form before).entries row)
+          (λ m some. key_same form before after level m (holds_same form before after m
+          (same m (omega (arith, some, ap (times m) (named_flat (tree_held form before) row), times_row form before m level (children form before row))))))
+          (named_entries form (tree_held form before) level row rows.1))),
       subst (AreRowsOf form site (block_at after) (tree_held form after) (half form level) level) (sym (below_same level items))
           (are_rows_same form (block_at before) (block_at after) site (half form level) level (children form before row)
           (λ m within. same m (times_of (blocks_of form before level (children form before row)) m within)) rows.2),

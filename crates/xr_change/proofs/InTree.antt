@@ -1,9 +1,5 @@
 -- A block of a tree in its row: what a lookup may do there, and what a leaf is after its records were changed.
-use Rattle.std.proofs.Common.{◌≡◌, ℕ, zero, suc, ◌≤◌, None, List, [], ◌∷◌, ◌++◌, length, sym, ap, ◌∙◌, subst, arith, ◌+◌, ◌<◌, true, get_or}
-use Rattle.std.proofs.lemmas.List.{append-nil}
-use Rattle.std.specs.List.{AllPairs, Contains}
-use Rattle.std.specs.Ordering.{is_eq}
-use Rattle.std.specs.declared.cmp.Ordering.TheVariants.{Less}
+use Rattle.std.proofs.Common.{◌≡◌, ℕ, zero, suc, ◌≤◌, None, List, [], ◌∷◌, ◌++◌, length, sym, ap, ◌∙◌, subst, arith, ◌+◌, ◌<◌, true, get_or, append-nil, Contains, is_eq}
 use Rattle.xr_blocks.proofs.Times.{all_of, found_in, times_same}
 use Rattle.xr_blocks.specs.Form.{Form, IsForm}
 use Rattle.xr_blocks.specs.FrameLaws.{leaf_same, linked_same}
@@ -17,9 +13,9 @@ use Rattle.xr_change.proofs.Editing.{leaf_read}
 use Rattle.xr_change.proofs.ItemFacts.{row_whole, whole_leaf}
 use Rattle.xr_change.proofs.Reading.{read_records}
 use Rattle.xr_change.proofs.Written.{block_writes, same_count, written_only}
-use Rattle.xr_change.proofs.RowBlocks.{holds_same, not_alone, times_leaves, times_parts, times_append, times_row, same_or_other}
+use Rattle.xr_change.proofs.RowBlocks.{holds_same, not_alone, times_leaves, times_parts, times_append, times_row, same_or_other, used_still, whole_given}
 use Rattle.xr_change.proofs.SetLemmas.{IsPlaceFor, stands_at}
-use Rattle.xr_change.specs.Alters.{Alters, AreRowsIn, AreKnown}
+use Rattle.xr_change.specs.Alters.{Alters, AreKnown}
 use Rattle.xr_change.specs.Changes.{Changes}
 use Rattle.xr_change.specs.Draft.{ReadsAs}
 use Rattle.xr_change.specs.Regroups.{place_of}
@@ -27,56 +23,13 @@ use Rattle.xr_change.specs.Ways.{IsInTree, item_count}
 use Rattle.xr_change.specs.Writes.{WritesOnly, Writes}
 use Rattle.xr_edit.proofs.EditLaws.{leaf_count, leaf_of_whole, leaf_records}
 use Rattle.xr_edit.specs.Edit.{IsLeafOf, sealed}
-use Rattle.xr_lookup.proofs.DescentLemmas.{leaf_is, leaf_parted}
+use Rattle.xr_lookup.proofs.DescentLemmas.{leaf_is, leaf_parted, node_few}
 use Rattle.xr_lookup.specs.Cuts.{IsParted, IsPlaceOf, is_before}
 use Rattle.xr_lookup.specs.Leaf.{IsLeaf}
 use Rattle.xr_lookup.specs.declared.cut.Cut.{Cut}
 use Rattle.xr_lookup.specs.declared.cut.Cut.TheVariants.{Before}
 use Rattle.xr_lookup.specs.Under.{IsUnder}
-
-module _ {X : Type 0} (form : Form X) (a b : Blocks) (floor n : ℕ) (rs : List X) (only : WritesOnly a b n)
-    (leaf : (place : Place) → place.number ≡ n → block_at a n ≡ leaf_bytes form (site_of a) place (records_in form (block_at a n))
-    → block_at b n ≡ leaf_bytes form (site_of a) place rs) (holds : records_in form (block_at b n) ≡ rs) (many : floor ≤ length rs) (few : length rs ≤ form.leaf_max) where
-  leaf_whole : (least : ℕ) (place : Place) → least ≤ floor → place.number ≡ n
-      → IsWholeLeaf form (site_of a) (tree_held form a) least place (block_at a place.number)
-      → IsWholeLeaf form (site_of a) (tree_held form b) least place (block_at b place.number)
-  leaf_whole least place low is whole =
-      let records : records_in form (block_at b place.number) ≡ rs = ap (λ (m : ℕ). records_in form (block_at b m)) is ∙ holds in
-      let before : block_at a n ≡ leaf_bytes form (site_of a) place (records_in form (block_at a n)) =
-      subst (λ (m : ℕ). block_at a m ≡ leaf_bytes form (site_of a) place (records_in form (block_at a m))) is whole.whole in
-      record {
-        whole = ap (block_at b) is ∙ leaf place is before ∙ ap (leaf_bytes form (site_of a) place) (sym records);
-        least_items = omega (arith, low, many, ap length records);
-        most_items = omega (arith, few, ap length records);
-      }
-
-  leaves_after : (least : ℕ) (row : List ℕ) → least ≤ floor → AreRowsIn form a least zero row → AreRowsIn form b least zero row
-  unfolding AreRowsOf
-  leaves_after least row low known = record {
-    rows = subst (λ (site : Site). AreRowsOf form site (block_at b) (tree_held form b) least zero row) (sym only.same.site)
-        (linked_same form (block_at a) (block_at b) (IsWholeLeaf form (site_of a) (tree_held form a) least) (IsWholeLeaf form (site_of a) (tree_held form b) least) zero None row None
-        (λ place within whole. same_or_other place.number n
-        (λ is. leaf_whole least place low is whole)
-        (λ other. leaf_same form (block_at a) (block_at b) (site_of a) least place (only.others place.number other) whole)) known.rows);
-    once = λ m. omega (arith, known.once m, times_leaves form a m row, times_leaves form b m row);
-    owned = λ m some.
-        let used = known.owned m (omega (arith, some, times_leaves form a m row, times_leaves form b m row)) in
-        record { from = used.from; below = subst (λ (size : ℕ). suc m ≤ size) (sym only.same.pool) used.below; taken = only.free m ∙ used.taken };
-  }
-
-  apart : (m : ℕ) → times m (blocks_of form a zero (n ∷ [])) ≡ 0 → m ≡ n → ⊥
-  apart m out = not_alone m n (omega (arith, out, times_leaves form a m (n ∷ [])))
-
-  pub alters_leaf : Alters form a b floor zero n
-  alters_leaf = record {
-    same = only.same;
-    rows = λ least pre post low known. leaves_after least (pre ++ n ∷ post) low known;
-    held = λ m used out.
-        (holds_same form a b m (only.others m (apart m out)), only.free m ∙ used, omega (arith, out, times_leaves form a m (n ∷ []), times_leaves form b m (n ∷ [])));
-    bytes = λ least pre post low known m used out. only.others m (apart m (omega (arith, out, times_parts form a m zero pre (n ∷ []) post)));
-    freed = λ m some none. absurd (omega (arith, some, none, times_leaves form a m (n ∷ []), times_leaves form b m (n ∷ [])));
-    spare = λ m free out. only.free m ∙ free;
-  }
+use Rattle.xr_node.specs.NodeLaws.{length-entries}
 
 module _ {X : Type 0} (form : Form X) (b : Blocks) (level n : ℕ) (here : IsInTree form b level n) where
   pub in_row : 1 ≤ times n (here.pre ++ n ∷ here.post)
@@ -133,15 +86,13 @@ module _ {X : Type 0} (form : Form X) (laws : IsForm form) (b : Blocks) (known :
 
   pub leaf_found : (old : List ℕ) → ReadsAs form old (block_at b n) → (r : X) (k : ℕ) → IsPlaceOf (is_before form (Before r)) (records_in form old) k
       → IsPlaceFor form.order r held k
-  leaf_found old reads r k place =
-      subst (λ (rs : List X). IsPlaceOf (is_before form (Before r)) rs k) (read_records form old (block_at b n) reads) place
+  leaf_found old reads r k place = rw (read_records form old (block_at b n) reads) at place
 
   -- a record of the leaf stands where the first does that isn't below it
   pub leaf_stands : (r : X) (k : ℕ) → IsPlaceFor form.order r held k → Contains (records_of form b zero (n ∷ [])) r
       → (k < length held) × ((d : X) → is_eq (form.order (get_or held k d) r) ≡ true)
   leaf_stands r k place found =
-      stands_at form.order laws.total r held (subst (AllPairs (λ (x y : X). form.order x y ≡ Less)) (leaf_alone form b n) here.ascend) k place
-      (subst (λ (xs : List X). Contains xs r) (leaf_alone form b n) found)
+      stands_at form.order laws.total r held (rw (leaf_alone form b n) at here.ascend) k place (rw (leaf_alone form b n) at found)
 
   module _ (old bytes : List ℕ) (reads : ReadsAs form old (block_at b n)) (records : List X) (made : (site : Site) (place : Place)
       → IsLeafOf form site place held (sealed form old) → IsLeafOf form site place records bytes) where
@@ -154,17 +105,47 @@ module _ {X : Type 0} (form : Form X) (laws : IsForm form) (b : Blocks) (known :
     writes : Writes b after (n ∷ [])
     writes = block_writes b n bytes known.all (in_pool form b zero n here)
 
+    only : WritesOnly b after n
+    only = written_only b after n writes
+
     now : (place : Place) → IsLeafOf form (site_of b) place held (block_at b n) → IsLeafOf form (site_of b) place records bytes
     now place was = made (site_of b) place (leaf_read form old (block_at b n) reads (site_of b) place held was)
 
     holds : records_in form (block_at after n) ≡ records
     holds = ap (records_in form) written ∙ leaf_records form laws (site_of b) own_place.0 bytes records (now own_place.0 own_place.1)
 
+    apart : (m : ℕ) → times m (blocks_of form b zero (n ∷ [])) ≡ 0 → m ≡ n → ⊥
+    apart m out = not_alone m n (omega (arith, out, times_leaves form b m (n ∷ [])))
+
+    alters_leaf : (floor : ℕ) → floor ≤ length records → Alters form b after floor zero n
+    unfolding AreRowsOf
+    alters_leaf floor many = record {
+      same = writes.same;
+      rows = λ least pre post low rows. record {
+        rows = rw writes.same.site
+            (linked_same form (block_at b) (block_at after) (IsWholeLeaf form (site_of b) (tree_held form b) least) (IsWholeLeaf form (site_of b) (tree_held form after) least)
+            zero None (pre ++ n ∷ post) None
+            (λ place within whole. same_or_other place.number n
+            (λ is.
+            whole_given least form.leaf_max (leaf_bytes form (site_of b)) (tree_held form b).records (tree_held form after).records
+            (block_at b) (block_at after) n records place is holds
+            (λ was. written ∙ (now place (leaf_here place was own_place.1.few)).whole) (λ some. omega (arith, low, many)) (now own_place.0 own_place.1).few whole)
+            (λ other. leaf_same form (block_at b) (block_at after) (site_of b) least place (only.others place.number other) whole)) rows.rows);
+        once = λ m. omega (arith, rows.once m, times_leaves form b m (pre ++ n ∷ post), times_leaves form after m (pre ++ n ∷ post));
+        owned = λ m some.
+            let used = rows.owned m (omega (arith, some, times_leaves form b m (pre ++ n ∷ post), times_leaves form after m (pre ++ n ∷ post))) in
+            used_still b after m writes.same (only.free m ∙ used.taken) used;
+      };
+      held = λ m used out.
+          (holds_same form b after m (only.others m (apart m out)), only.free m ∙ used, omega (arith, out, times_leaves form b m (n ∷ []), times_leaves form after m (n ∷ [])));
+      bytes = λ least pre post low rows m used out. only.others m (apart m (omega (arith, out, times_parts form b m zero pre (n ∷ []) post)));
+      freed = λ m some none. absurd (omega (arith, some, none, times_leaves form b m (n ∷ []), times_leaves form after m (n ∷ [])));
+      spare = λ m free out. only.free m ∙ free;
+    }
+
     pub leaf_changes : (lost : ℕ) (change : List X → List X) → records ≡ change held → length held ≤ length records + lost → Changes form b after lost zero n change
     leaf_changes lost change is many = record {
-      alters = λ floor low.
-          alters_leaf form b after floor n records (written_only b after n writes) (λ place number whole. written ∙ (now place (leaf_here place whole own_place.1.few)).whole) holds
-          (omega (arith, low, many)) (now own_place.0 own_place.1).few;
+      alters = λ floor low. alters_leaf floor (omega (arith, low, many));
       set = leaf_alone form after n ∙ holds ∙ is ∙ ap change (sym (leaf_alone form b n));
       marks = record { stay = writes.marks.stay; few = omega (arith, writes.marks.few) };
     }
@@ -184,3 +165,8 @@ node_in form b level n = subst (λ (l : ℕ). IsInTree form b l n) (one_more lev
 
 pub node_items : {X : Type 0} (form : Form X) (b : Blocks) (level n : ℕ) → item_count form b (level + 1) n ≡ length (entries_in form (block_at b n))
 node_items form b level n = ap (λ (l : ℕ). item_count form b l n) (one_more level)
+
+pub node_room : {X : Type 0} (form : Form X) (laws : IsForm form) (b : Blocks) (level n : ℕ) → IsInTree form b (level + 1) n
+    → length (entries_in form (block_at b n)) ≤ form.node_max
+node_room form laws b level n here =
+    omega (arith, node_few form laws b (level + 1) level n (omega arith) (is_under form b (level + 1) n here), length-entries form (block_at b n))

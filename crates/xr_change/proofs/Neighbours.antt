@@ -10,20 +10,17 @@ use Rattle.xr_blocks.specs.Form.{Form, IsForm, header_size, pointer_size}
 use Rattle.xr_blocks.specs.Overlay.{Blocks, block_at, pool_size}
 use Rattle.xr_blocks.specs.Rows.{Held}
 use Rattle.xr_blocks.specs.Tree.{site_of, tree_held}
-use Rattle.xr_blocks.specs.TreeBlock.{Entry, Place, Site, count_in, entries_in, header, leaf_bytes, neighbour, node_bytes, node_items, records_in, tree_block}
+use Rattle.xr_blocks.specs.TreeBlock.{Place, Site, count_in, entries_in, header, leaf_bytes, neighbour, node_bytes, node_items, records_in, tree_block}
 use Rattle.xr_change.specs.Alters.{AreKnown, HoldsSame, IsWholeAt}
 use Rattle.xr_node.proofs.BlockTesting.{IsRead, Names, block_read, neighbour_again}
 use Rattle.xr_node.proofs.ItemTesting.{node_read}
 use Rattle.xr_node.specs.BlockTest.{left_in, right_in}
 use Rattle.xr_node.specs.NodeLaws.{length-entries}
 
-named_small : (long : Bool) (n : ℕ) → n < 2 ^ 31 → Names (if long then 8 else 4) (Some n)
-named_small true n small = omega arith
-named_small false n small = omega arith
-
 pub names_small : (long : Bool) (o : Option ℕ) → ((q : ℕ) → o ≡ Some q → q < 2 ^ 31) → Names (if long then 8 else 4) o
 names_small long None small = tt
-names_small long (Some q) small = named_small long q (small q refl)
+names_small true (Some q) small = omega (arith, small q refl)
+names_small false (Some q) small = omega (arith, small q refl)
 
 -- a block with its count and its items, of a leaf or of a node
 pub record IsBlockAt {X : Type 0} (form : Form X) (site : Site) (place : Place) (bytes : List ℕ) : Type 0 where
@@ -37,29 +34,24 @@ module _ {X : Type 0} (form : Form X) (laws : IsForm form) (b : Blocks) (known :
   pub block_of : (least level : ℕ) (place : Place) → place.number < pool_size b
       → IsWholeAt form (site_of b) (tree_held form b) level least place (block_at b place.number) → IsBlockAt form (site_of b) place (block_at b place.number)
   unfolding IsWholeAt
-  block_of least zero place within whole =
-      let records : List X = records_in form (block_at b place.number) in
-      let size : length records * form.size ≤ form.leaf_max * form.size = mul-le-mul_right form.size whole.most_items in
-      record {
-        count = length records;
-        items = flat_map form.bytes_of records;
-        block = whole.whole;
-        small = omega (arith, whole.most_items, laws.leaf_few);
-        room = omega (arith, laws.leaf_fits, size, length-items form.bytes_of form.size records laws.sized);
-      }
+  block_of least zero place within whole = record {
+    count = length (records_in form (block_at b place.number));
+    items = flat_map form.bytes_of (records_in form (block_at b place.number));
+    block = whole.whole;
+    small = omega (arith, whole.most_items, laws.leaf_few);
+    room = omega (arith, laws.leaf_fits, mul-le-mul_right form.size whole.most_items, length-items form.bytes_of form.size (records_in form (block_at b place.number)) laws.sized);
+  }
   block_of least (suc level) place within whole =
       let block = known.whole place.number within in
-      let entries : List Entry = entries_in form (block_at b place.number) in
       let node = node_read form laws (site_of b) least place (block_at b place.number) known.identified block.long whole in
-      let width : length entries * pointer_size form ≤ form.node_max * pointer_size form = mul-le-mul_right (pointer_size form) whole.most_items in
-      let counted : length entries * pointer_size form ≡ pointer_size form * count_in (block_at b place.number) =
+      let counted : length (entries_in form (block_at b place.number)) * pointer_size form ≡ pointer_size form * count_in (block_at b place.number) =
       ap (λ (n : ℕ). n * pointer_size form) (length-entries form (block_at b place.number)) ∙ omega arith in
       record {
-        count = length entries;
-        items = node_items form entries;
+        count = length (entries_in form (block_at b place.number));
+        items = node_items form (entries_in form (block_at b place.number));
         block = whole.whole;
         small = omega (arith, whole.most_items, laws.node_few);
-        room = omega (arith, laws.node_fits, width, counted, node.length_items);
+        room = omega (arith, laws.node_fits, mul-le-mul_right (pointer_size form) whole.most_items, counted, node.length_items);
       }
 
   pub read_of : (place : Place) (at : IsBlockAt form (site_of b) place (block_at b place.number))
@@ -99,29 +91,28 @@ module _ {X : Type 0} (form : Form X) (laws : IsForm form) (b : Blocks) (known :
       let rest : drop (header_size form) (block_at after place.number) ≡ drop (header_size form) (block_at b place.number) = now.rest ∙ sym was.rest in
       record { same_records = rw (count, rest) refl; same_entries = rw (count, rest) refl }
 
--- a block's bytes tell of its neighbours no more than theirs
-block_moved : {X : Type 0} (form : Form X) (site : Site) (place place' : Place) (count : ℕ) (items : List ℕ) → place'.number ≡ place.number
-    → place'.level ≡ place.level → neighbour (pointer_size form) place'.left ≡ neighbour (pointer_size form) place.left
-    → neighbour (pointer_size form) place'.right ≡ neighbour (pointer_size form) place.right → tree_block form site place' count items ≡ tree_block form site place count items
-unfolding tree_block header
-block_moved form site place place' count items number level left right = rw (number, level, left, right) refl
+-- a block that holds the same is whole at another place, or with other bytes
+pub whole_as : {X : Type 0} (form : Form X) (site : Site) (held held' : Held X) (least level : ℕ) (place place' : Place) (bytes bytes' : List ℕ)
+    → held'.records place'.number ≡ held.records place.number → held'.entries place'.number ≡ held.entries place.number
+    → ((count : ℕ) (items : List ℕ) → bytes ≡ tree_block form site place count items → bytes' ≡ tree_block form site place' count items)
+    → IsWholeAt form site held level least place bytes → IsWholeAt form site held' level least place' bytes'
+unfolding IsWholeAt
+whole_as form site held held' least zero place place' bytes bytes' records entries is whole = record {
+  whole = is _ _ whole.whole ∙ ap (leaf_bytes form site place') (sym records);
+  least_items = omega (arith, whole.least_items, ap length records);
+  most_items = omega (arith, whole.most_items, ap length records);
+}
+whole_as form site held held' least (suc level) place place' bytes bytes' records entries is whole = record {
+  whole = is _ _ whole.whole ∙ ap (node_bytes form site place') (sym entries);
+  least_items = omega (arith, whole.least_items, ap length entries);
+  most_items = omega (arith, whole.most_items, ap length entries);
+}
 
+-- a block's bytes tell of its neighbours no more than theirs
 pub whole_moved : {X : Type 0} (form : Form X) (site : Site) (held : Held X) (least level : ℕ) (place place' : Place) (bytes : List ℕ) → place'.number ≡ place.number
     → place'.level ≡ place.level → neighbour (pointer_size form) place'.left ≡ neighbour (pointer_size form) place.left
     → neighbour (pointer_size form) place'.right ≡ neighbour (pointer_size form) place.right → IsWholeAt form site held level least place bytes
     → IsWholeAt form site held level least place' bytes
-unfolding IsWholeAt
-whole_moved form site held least zero place place' bytes number level left right whole =
-    let same : held.records place'.number ≡ held.records place.number = ap held.records number in
-    record {
-      whole = whole.whole ∙ sym (block_moved form site place place' _ _ number level left right) ∙ ap (leaf_bytes form site place') (sym same);
-      least_items = omega (arith, whole.least_items, ap length same);
-      most_items = omega (arith, whole.most_items, ap length same);
-    }
-whole_moved form site held least (suc l) place place' bytes number level left right whole =
-    let same : held.entries place'.number ≡ held.entries place.number = ap held.entries number in
-    record {
-      whole = whole.whole ∙ sym (block_moved form site place place' _ _ number level left right) ∙ ap (node_bytes form site place') (sym same);
-      least_items = omega (arith, whole.least_items, ap length same);
-      most_items = omega (arith, whole.most_items, ap length same);
-    }
+unfolding tree_block header
+whole_moved form site held least level place place' bytes number same left right =
+    whole_as form site held held least level place place' bytes bytes (ap held.records number) (ap held.entries number) (λ count items is. rw (number, same, left, right) is)

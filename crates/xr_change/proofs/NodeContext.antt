@@ -12,6 +12,7 @@ use Rattle.xr_blocks.specs.TreeBlock.{Place}
 use Rattle.xr_change.proofs.Grouping.{row_linked, times_rows}
 use Rattle.xr_change.proofs.Neighbours.{right_read}
 use Rattle.xr_change.proofs.RowBlocks.{below, children, times_append, same_or_other}
+use Rattle.xr_change.proofs.Written.{times_is}
 use Rattle.xr_change.specs.Alters.{AreKnown, AreRowsIn, IsWholeAt}
 use Rattle.xr_change.specs.Regroups.{blocks_below}
 use Rattle.xr_node.specs.BlockTest.{right_in}
@@ -23,6 +24,9 @@ is_some_of (Some k) m = same_or_other k m (λ same. inl (ap Some same)) (λ othe
 pub first_of-append : (xs ys : List ℕ) (right : Option ℕ) → first_of (xs ++ ys) right ≡ first_of xs (first_of ys right)
 first_of-append [] ys right = refl
 first_of-append (x ∷ xs) ys right = refl
+
+pub row_has : (m n : ℕ) (pre post : List ℕ) → m ≡ n → 1 ≤ times m (pre ++ n ∷ post)
+row_has m n pre post same = rw same (omega (arith, times_append n pre (n ∷ post), times_same n post))
 
 pub last_within : (x : ℕ) (xs : List ℕ) (last : ℕ) → last_or (Some x) xs ≡ Some last → 1 ≤ times last (x ∷ xs)
 last_within x [] last is =
@@ -42,27 +46,20 @@ module _ (P : Place → List ℕ → Type 0) (at : ℕ → List ℕ) (level : �
       → AreLinked P at level (last_or left xs) ys right → AreLinked P at level left (xs ++ ys) right
   unfolding AreLinked
   linked_joined left [] ys right front rest = rest
-  linked_joined left (x ∷ xs) ys right front rest = (
-    subst (λ (o : Option ℕ). P (record { number = x; level = level; left = left; right = o }) (at x)) (sym (first_of-append xs ys right)) front.0,
-    linked_joined (Some x) xs ys right front.1 rest,
-  )
+  linked_joined left (x ∷ xs) ys right front rest = (rw (first_of-append xs ys right) front.0, linked_joined (Some x) xs ys right front.1 rest)
 
-  -- the last block's right neighbour stands behind the row
-  pub linked_last : (left : Option ℕ) (x : ℕ) (xs : List ℕ) (right : Option ℕ) (last : ℕ) → last_or (Some x) xs ≡ Some last
-      → AreLinked P at level left (x ∷ xs) right → (l : Option ℕ) × P (record { number = last; level = level; left = l; right = right }) (at last)
+  -- the last block stands in the row, and its right neighbour behind it
+  pub linked_last : (left : Option ℕ) (x : ℕ) (xs : List ℕ) (right : Option ℕ) (last : ℕ) → last_or (Some x) xs ≡ Some last → AreLinked P at level left (x ∷ xs) right
+      → (l : Option ℕ) × P (record { number = last; level = level; left = l; right = right }) (at last)
   unfolding AreLinked
-  linked_last left x [] right last is linked =
-      let same : x ≡ last = cc in
-      (left, subst (λ (m : ℕ). P (record { number = m; level = level; left = left; right = right }) (at m)) same linked.0)
+  linked_last left x [] right last is linked = let same : x ≡ last = cc in (left, rw (← same) linked.0)
   linked_last left x (y ∷ ys) right last is linked = linked_last (Some x) y ys right last is linked.1
 
   pub linked_first : (left : Option ℕ) (row : List ℕ) (right : Option ℕ) (q : ℕ) → first_of row None ≡ Some q → AreLinked P at level left row right
       → (r : Option ℕ) × P (record { number = q; level = level; left = left; right = r }) (at q)
   unfolding AreLinked
   linked_first left [] right q is linked = absurd cc
-  linked_first left (n ∷ ns) right q is linked =
-      let same : n ≡ q = cc in
-      (first_of ns right, subst (λ (m : ℕ). P (record { number = m; level = level; left = left; right = first_of ns right }) (at m)) same linked.0)
+  linked_first left (n ∷ ns) right q is linked = let same : n ≡ q = cc in (first_of ns right, rw (← same) linked.0)
 
 module _ (P Q : Place → List ℕ → Type 0) (at now : ℕ → List ℕ) (level : ℕ) where
   -- each block is as good at its place as it was
@@ -90,31 +87,22 @@ module _ (P Q : Place → List ℕ → Type 0) (at now : ℕ → List ℕ) (leve
     linked_stays (Some n) ns right
         (λ place low some.
         each place low (omega (arith, some, times_more place.number n ns))
-        (λ is.
-        let same : n ≡ place.number = cc in
-        let two : times place.number (n ∷ ns) ≡ 1 + times place.number ns = subst (λ (m : ℕ). times m (n ∷ ns) ≡ 1 + times m ns) same (times_same n ns) in
-        absurd (omega (arith, two, some, once place.number))))
+        (λ is. let same : n ≡ place.number = cc in absurd (omega (arith, times_is place.number n ns same, some, once place.number))))
         linked.1,
   )
 
 pub row_joined : (a f o b z : List ℕ) → a ++ ((f ++ (o ++ b)) ++ z) ≡ (a ++ f) ++ (o ++ (b ++ z))
 row_joined a f o b z = rw (append_assoc f (o ++ b) z, append_assoc o b z) (sym (append_assoc a f (o ++ (b ++ z))))
 
-pub row_has : (m n : ℕ) (pre post : List ℕ) → m ≡ n → 1 ≤ times m (pre ++ n ∷ post)
-row_has m n pre post same =
-    subst (λ (k : ℕ). 1 ≤ times k (pre ++ n ∷ post)) (sym same) (omega (arith, times_append n pre (n ∷ post), times_same n post))
-
 pub first_within : (xs : List ℕ) (q : ℕ) → first_of xs None ≡ Some q → 1 ≤ times q xs
 first_within [] q is = absurd cc
-first_within (x ∷ xs) q is =
-    let same : x ≡ q = cc in subst (λ (m : ℕ). 1 ≤ times m (x ∷ xs)) same (omega (arith, times_same x xs))
+first_within (x ∷ xs) q is = let same : x ≡ q = cc in rw (← same) (omega (arith, times_same x xs))
 
 -- the row of the children of a row of nodes, by some children of one
 module _ {X : Type 0} (form : Form X) (b : Blocks) (n : ℕ) (front old behind : List ℕ) (named : named_below (tree_held form b) n ≡ front ++ (old ++ behind)) (pre post : List ℕ) where
   pub children_around : children form b (pre ++ n ∷ post) ≡ (children form b pre ++ front) ++ (old ++ (behind ++ children form b post))
   children_around =
-      flat_map-append (named_below (tree_held form b)) pre (n ∷ post) ∙ ap (λ (ms : List ℕ). children form b pre ++ (ms ++ children form b post)) named
-      ∙ row_joined (children form b pre) front old behind (children form b post)
+      flat_map-append (named_below (tree_held form b)) pre (n ∷ post) ∙ rw named (row_joined (children form b pre) front old behind (children form b post))
 
   pub rows_among : (least level : ℕ) → AreRowsIn form b least (suc level) (pre ++ n ∷ post)
       → AreRowsIn form b (half form level) level ((children form b pre ++ front) ++ (old ++ (behind ++ children form b post)))
@@ -137,22 +125,17 @@ module _ {X : Type 0} (form : Form X) (b : Blocks) (level : ℕ) (pre old post :
       let rest = linked_apart P (block_at b) level (last_or None pre) old post None parts.1 in (parts.0, rest.0, rest.1)
 
   module _ (c : ℕ) (olds : List ℕ) (is : old ≡ c ∷ olds) (last : ℕ) (found : last_or (Some c) olds ≡ Some last) where
-    last_is : last_or (last_or None pre) old ≡ Some last
-    last_is = ap (last_or (last_or None pre)) is ∙ found
-
     -- the first behind them is whole at a place right of the last
     pub first_behind : (q : ℕ) → first_of post None ≡ Some q → (right : Option ℕ) × P (record { number = q; level = level; left = Some last; right = right }) (block_at b q)
-    first_behind q next = linked_first P (block_at b) level (Some last) post None q next (subst (λ (l : Option ℕ). AreLinked P (block_at b) level l post None) last_is row_parts.2)
+    first_behind q next = linked_first P (block_at b) level (Some last) post None q next (rw (is, found) at row_parts.2)
 
     -- and the last of them names it
     pub last_names : (laws : IsForm form) (known : AreKnown b) → right_in form (block_at b last) ≡ first_of post None
     last_names laws known =
         let o : Option ℕ = last_or None pre in
-        let whole = linked_last P (block_at b) level o c olds (first_of post None) last found
-        (subst (λ (ms : List ℕ). AreLinked P (block_at b) level o ms (first_of post None)) is row_parts.1) in
-        let there : 1 ≤ times last old = subst (λ (ms : List ℕ). 1 ≤ times last ms) (sym is) (last_within c olds last found) in
+        let whole = linked_last P (block_at b) level o c olds (first_of post None) last found (rw is at row_parts.1) in
         right_read form laws b known (half form level) level (record { number = last; level = level; left = whole.0; right = first_of post None })
-        (rows.owned last (omega (arith, there, counted last))).below
+        (rows.owned last (omega (arith, last_within c olds last found, ap (times last) is, counted last))).below
         (λ q next. (rows.owned q (omega (arith, first_within post q next, counted q))).below) whole.1
 
     pub next_within : (laws : IsForm form) (known : AreKnown b) (q : ℕ) → right_in form (block_at b last) ≡ Some q → 1 ≤ times q post

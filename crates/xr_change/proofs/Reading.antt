@@ -9,8 +9,8 @@ use Rattle.xr_change.specs.Draft.{ReadsAs}
 use Rattle.xr_change.specs.Regroups.{HasKey}
 use Rattle.xr_edit.specs.Edit.{sealed}
 use Rattle.xr_edit.specs.SealLaws.{sealed_again, sealed_count, sealed_left, sealed_rest, sealed_right}
-use Rattle.xr_node.specs.BlockTest.{AreZeros, HoldsRecords}
-use Rattle.xr_node.specs.Node.{child_in, key_in, low_key_in}
+use Rattle.xr_node.specs.BlockTest.{AreZeros}
+use Rattle.xr_node.specs.Node.{child_in, key_in}
 
 module _ {X : Type 0} (form : Form X) (bytes whole : List ℕ) (reads : ReadsAs form bytes whole) where
   -- what stands behind the header
@@ -30,9 +30,6 @@ module _ {X : Type 0} (form : Form X) (bytes whole : List ℕ) (reads : ReadsAs 
   pub read_key : (k : ℕ) → key_in form k bytes ≡ key_in form k whole
   read_key k = ap (take (key_size form)) (read_behind (key_size form * k))
 
-  pub read_low_key : (k : ℕ) → low_key_in form k bytes ≡ low_key_in form k whole
-  read_low_key k = ap (take form.low) (read_key k)
-
   pub read_child : (k : ℕ) → child_in form k bytes ≡ child_in form k whole
   read_child k =
       let at : header_size form + form.node_max * key_size form + pointer_size form * k
@@ -40,21 +37,20 @@ module _ {X : Type 0} (form : Form X) (bytes whole : List ℕ) (reads : ReadsAs 
       ap (big_number (pointer_size form))
       (ap (λ (m : ℕ). drop m bytes) at ∙ read_behind (form.node_max * key_size form + pointer_size form * k) ∙ ap (λ (m : ℕ). drop m whole) (sym at))
 
-  pub read_held : HoldsRecords form whole → HoldsRecords form bytes
-  read_held held = record {
-    most_items = omega (arith, reads.count, held.most_items);
-    records = record {
-      valid = λ k within.
-          subst (λ (rest : List ℕ). IsSome (form.taken (take form.size rest))) (sym (read_behind (form.size * k)))
-          (held.records.valid k (omega (arith, reads.count, within)));
-      zeros = subst (λ (n : ℕ). AreZeros (drop (header_size form + form.size * n) bytes)) (sym reads.count)
-          (subst AreZeros (sym (read_behind (form.size * count_in whole))) held.records.zeros);
-    };
-  }
-
   pub read_keyed : (level : ℕ) → HasKey form level whole → HasKey form level bytes
   read_keyed level keyed = record {
-    tested = λ leaf. read_held (keyed.tested leaf);
+    tested = λ leaf.
+        let held = keyed.tested leaf in
+        record {
+          most_items = omega (arith, reads.count, held.most_items);
+          records = record {
+            valid = λ k within.
+                subst (λ (rest : List ℕ). IsSome (form.taken (take form.size rest))) (sym (read_behind (form.size * k)))
+                (held.records.valid k (omega (arith, reads.count, within)));
+            zeros = subst (λ (n : ℕ). AreZeros (drop (header_size form + form.size * n) bytes)) (sym reads.count)
+                (subst AreZeros (sym (read_behind (form.size * count_in whole))) held.records.zeros);
+          };
+        };
     some = omega (arith, reads.count, keyed.some);
     few = omega (arith, reads.count, keyed.few);
   }

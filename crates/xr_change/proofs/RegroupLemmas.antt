@@ -1,9 +1,9 @@
 -- Some blocks of a row are taken for others that hold the same items: what stands under them is another tree of the same records.
-use Rattle.std.proofs.Common.{◌≡◌, ℕ, ◌+◌, ◌<◌, ◌≤◌, true, false, Option, Some, None, List, ◌∷◌, ◌++◌, refl, sym, ap, ◌∙◌, subst, arith, ⊎_elim}
+use Rattle.std.proofs.Common.{take, drop, ◌≡◌, ℕ, ◌+◌, ◌<◌, ◌≤◌, true, false, Option, Some, None, List, ◌∷◌, ◌++◌, refl, sym, ap, ◌∙◌, subst, arith, ⊎_elim}
 use Rattle.std.specs.List.{last_or}
 use Rattle.xr_blocks.specs.Form.{Form, IsForm}
 use Rattle.xr_blocks.specs.Overlay.{Blocks, block_at, is_free, pool_size}
-use Rattle.xr_blocks.specs.Rows.{AreLinked, AreRowsOf, first_of, half}
+use Rattle.xr_blocks.specs.Rows.{AreLinked, AreRowsOf, first_of, half, named_below}
 use Rattle.xr_blocks.specs.Times.{times}
 use Rattle.xr_blocks.specs.Tree.{IsUsed, blocks_of, records_of, site_of, tree_held}
 use Rattle.xr_blocks.specs.TreeBlock.{Place, Site}
@@ -11,13 +11,16 @@ use Rattle.xr_change.proofs.Grouping.{items_append, items_same, records_regroupe
 use Rattle.xr_change.proofs.NodeContext.{counted, first_behind, first_within, is_some_of, last_names, linked_after, linked_joined, linked_stays, row_parts}
 use Rattle.xr_change.proofs.Neighbours.{block_of, relinked_holds}
 use Rattle.xr_change.proofs.NodeChanges.{whole_relinked}
-use Rattle.xr_change.proofs.RowBlocks.{holds_same, times_append, times_row, same_or_other}
+use Rattle.xr_change.proofs.RowBlocks.{holds_same, times_append, times_row}
 use Rattle.xr_change.specs.Alters.{AreKnown, AreRowsIn, HoldsSame, IsSamePool, IsWholeAt, Takes}
-use Rattle.xr_change.specs.Regroups.{HaveSameItems, IsRelinked, StayLinked, blocks_below}
+use Rattle.xr_change.specs.Regroups.{HasKey, HaveSameItems, IsRelinked, StayLinked, blocks_below}
+use Rattle.xr_change.specs.Writes.{MarksAtMost, is_changed}
 use Rattle.xr_node.specs.BlockTest.{right_in}
 
--- the blocks c and those behind it are taken for c and others, with the same items
-pub record Dealt {X : Type 0} (form : Form X) (before after : Blocks) (level c : ℕ) (olds news : List ℕ) (last last' : ℕ) : Type 0 where
+-- c and the blocks behind it are taken for c and others with the same items, and the node n that names them as its k-th and the next is as it was
+pub record Moves {X : Type 0} (form : Form X) (before after : Blocks) (level n k t c more : ℕ) (olds news : List ℕ) : Type 0 where
+  pub last : ℕ
+  pub last' : ℕ
   pub same : IsSamePool before after
   pub last_is : last_or (Some c) olds ≡ Some last
   pub last_now : last_or (Some c) news ≡ Some last'
@@ -32,9 +35,17 @@ pub record Dealt {X : Type 0} (form : Form X) (before after : Blocks) (level c :
   pub used : (m : ℕ) → 1 ≤ times m (c ∷ news) → is_free after m ≡ false
   pub freed : (m : ℕ) → 1 ≤ times m (c ∷ olds) → times m (c ∷ news) ≡ 0 → is_free after m ≡ true
   pub free : (m : ℕ) → times m (c ∷ olds) ≡ 0 → times m (c ∷ news) ≡ 0 → is_free after m ≡ is_free before m
+  pub around : (let cs = named_below (tree_held form before) n in cs ≡ take k cs ++ ((c ∷ olds) ++ drop t cs))
+  pub kept : block_at after n ≡ block_at before n
+  -- what is known of those that n is to name
+  pub apart : (m : ℕ) → 1 ≤ times m (c ∷ news) → m ≡ n → ⊥
+  pub below : (m : ℕ) → 1 ≤ times m (c ∷ news) → m < pool_size before
+  pub keyed : (m : ℕ) → 1 ≤ times m (c ∷ news) → HasKey form level (block_at after m)
+  pub changed : (m : ℕ) → 1 ≤ times m (c ∷ news) → is_changed after m ≡ true
+  pub marks : MarksAtMost before after more
 
-module _ {X : Type 0} (form : Form X) (laws : IsForm form) (before after : Blocks) (known : AreKnown before) (level c : ℕ) (olds news : List ℕ) (last last' : ℕ)
-    (r : Dealt form before after level c olds news last last') where
+module _ {X : Type 0} {form : Form X} (laws : IsForm form) {before after : Blocks} (known : AreKnown before) {level n k t c more : ℕ} {olds news : List ℕ}
+    (r : Moves form before after level n k t c more olds news) where
   abbrev old : List ℕ
   old = c ∷ olds
 
@@ -43,141 +54,125 @@ module _ {X : Type 0} (form : Form X) (laws : IsForm form) (before after : Block
 
   -- what isn't free and isn't taken isn't new
   not_new : (m : ℕ) → is_free before m ≡ false → times m old ≡ 0 → times m new ≡ 0
-  not_new m used without = same_or_other (times m new) 0
-      (λ none. none)
-      (λ some. let taken = r.taken m (omega (arith, some)) without in absurd (let lie : true ≡ false = sym taken.0 ∙ used in cc (lie)))
+  not_new m used without = grind (arith, r.taken m, used, without)
 
   module _ (left right : List ℕ) (rows : AreRowsIn form before (half form level) level (left ++ (old ++ right))) where
-    here : (m : ℕ) → times m (blocks_of form before level (left ++ (old ++ right)))
-        ≡ (times m left + (times m old + times m right)) + times m (blocks_below form before level (left ++ (old ++ right)))
+    abbrev row : List ℕ
+    row = left ++ (old ++ right)
+
+    abbrev row_now : List ℕ
+    row_now = left ++ (new ++ right)
+
+    here : (m : ℕ) → times m (blocks_of form before level row) ≡ (times m left + (times m old + times m right)) + times m (blocks_below form before level row)
     here = counted form before level left old right rows
 
-    right_of_old : right_in form (block_at before last) ≡ first_of right None
-    right_of_old = last_names form before level left old right rows c olds refl last r.last_is laws known
+    right_of_old : right_in form (block_at before r.last) ≡ first_of right None
+    right_of_old = last_names form before level left old right rows c olds refl r.last r.last_is laws known
 
     -- the block right of the last holds what it held
-    next_holds : (q : ℕ) → right_in form (block_at before last) ≡ Some q → HoldsSame form before after q
+    next_holds : (q : ℕ) → right_in form (block_at before r.last) ≡ Some q → HoldsSame form before after q
     next_holds q is =
         let next : first_of right None ≡ Some q = sym right_of_old ∙ is in
-        let found = first_behind form before level left old right rows c olds refl last r.last_is q next in
-        let place : Place = record { number = q; level = level; left = Some last; right = found.0 } in
+        let found = first_behind form before level left old right rows c olds refl r.last r.last_is q next in
+        let place : Place = record { number = q; level = level; left = Some r.last; right = found.0 } in
         let used = rows.owned q (omega (arith, first_within right q next, here q)) in
         let block = block_of form laws before known (half form level) level place used.below found.1 in
-        relinked_holds form laws before known after place (record place { left = Some last' }) block (r.next q is place block.count block.items refl refl block.block)
+        relinked_holds form laws before known after place (record place { left = Some r.last' }) block (r.next q is place block.count block.items refl refl block.block)
 
     -- and so do all blocks beside those that were taken, which keep their bytes but for that one
     others_hold : (m : ℕ) → is_free before m ≡ false → times m old ≡ 0 → HoldsSame form before after m
     others_hold m used without = ⊎_elim
-        (λ (is : right_in form (block_at before last) ≡ Some m). next_holds m is)
-        (λ (beside : right_in form (block_at before last) ≡ Some m → ⊥). holds_same form before after m (r.others m without (not_new m used without) beside))
-        (is_some_of (right_in form (block_at before last)) m)
+        (λ (is : right_in form (block_at before r.last) ≡ Some m). next_holds m is)
+        (λ (beside : right_in form (block_at before r.last) ≡ Some m → ⊥). holds_same form before after m (r.others m without (not_new m used without) beside))
+        (is_some_of (right_in form (block_at before r.last)) m)
 
-    apart : (m : ℕ) → 1 ≤ times m left + (times m right + times m (blocks_below form before level (left ++ (old ++ right)))) → (is_free before m ≡ false) × (times m old ≡ 0)
+    apart : (m : ℕ) → 1 ≤ times m left + (times m right + times m (blocks_below form before level row)) → (is_free before m ≡ false) × (times m old ≡ 0)
     apart m some = ((rows.owned m (omega (arith, some, here m))).taken, omega (arith, some, here m, rows.once m))
 
     untouched : (m : ℕ) → is_free before m ≡ false → times m old ≡ 0 → (first_of right None ≡ Some m → ⊥) → block_at after m ≡ block_at before m
     untouched m used without beside = r.others m without (not_new m used without) (λ is. beside (sym right_of_old ∙ is))
 
-    below_stays : (m : ℕ) → 1 ≤ times m (blocks_below form before level (left ++ (old ++ right))) → block_at after m ≡ block_at before m
-    below_stays m some =
+    stays : (m : ℕ) → 1 ≤ times m left + times m (blocks_below form before level row) → block_at after m ≡ block_at before m
+    stays m some =
         let out = apart m (omega (arith, some)) in untouched m out.0 out.1 (λ is. absurd (omega (arith, some, first_within right m is, here m, rows.once m)))
 
-    untouched_left : (m : ℕ) → 1 ≤ times m left → block_at after m ≡ block_at before m
-    untouched_left m some =
-        let out = apart m (omega (arith, some)) in untouched m out.0 out.1 (λ is. absurd (omega (arith, some, first_within right m is, here m, rows.once m)))
+    below_stays : (m : ℕ) → 1 ≤ times m (blocks_below form before level row) → block_at after m ≡ block_at before m
+    below_stays m some = stays m (omega (arith, some))
 
     hold_beside : (m : ℕ) → 1 ≤ times m left + times m right → HoldsSame form before after m
     hold_beside m some = let out = apart m (omega (arith, some)) in others_hold m out.0 out.1
 
-    items_now : HaveSameItems form before after level (left ++ (old ++ right)) (left ++ (new ++ right))
+    items_now : HaveSameItems form before after level row row_now
     items_now =
         items_append form before after level left (old ++ right) left (new ++ right) (items_same form before after level left (λ m some. hold_beside m (omega (arith, some))))
         (items_append form before after level old right new right r.items (items_same form before after level right (λ m some. hold_beside m (omega (arith, some)))))
 
-    linked_now : AreLinked (IsWholeAt form (site_of before) (tree_held form after) level (half form level)) (block_at after) level None (left ++ (new ++ right)) None
+    linked_now : AreLinked (IsWholeAt form (site_of before) (tree_held form after) level (half form level)) (block_at after) level None row_now None
     linked_now =
         let P : Place → List ℕ → Type 0 = IsWholeAt form (site_of before) (tree_held form before) level (half form level) in
         let Q : Place → List ℕ → Type 0 = IsWholeAt form (site_of before) (tree_held form after) level (half form level) in
         let o : Option ℕ = last_or None left in
         let parts = row_parts form before level left old right rows in
-        let behind_it : AreLinked Q (block_at after) level (Some last') right None =
-        linked_after P Q (block_at before) (block_at after) level (Some last) (Some last') right None
+        let behind_it : AreLinked Q (block_at after) level (Some r.last') right None =
+        linked_after P Q (block_at before) (block_at after) level (Some r.last) (Some r.last') right None
         (λ m. omega (arith, here m, rows.once m))
         (λ q is place at low near whole.
-        whole_relinked form before after q last last' (half form level) level place at near (r.next q (right_of_old ∙ is)) (next_holds q (right_of_old ∙ is)) whole)
+        whole_relinked form before after q r.last r.last' (half form level) level place at near (r.next q (right_of_old ∙ is)) (next_holds q (right_of_old ∙ is)) whole)
         (λ place low some beside whole.
         let out = apart place.number (omega (arith, some)) in
         whole_same form before after (site_of before) (half form level) level place (untouched place.number out.0 out.1 beside) whole)
         (subst (λ (l : Option ℕ). AreLinked P (block_at before) level l right None) r.last_is parts.2) in
         linked_joined Q (block_at after) level None left (new ++ right) None
         (linked_stays P Q (block_at before) (block_at after) level None left (first_of (new ++ right) None)
-        (λ place low some whole. whole_same form before after (site_of before) (half form level) level place (untouched_left place.number some) whole) parts.0)
+        (λ place low some whole. whole_same form before after (site_of before) (half form level) level place (stays place.number (omega (arith, some))) whole) parts.0)
         (linked_joined Q (block_at after) level o new right None (r.linked o (first_of right None) parts.1)
         (subst (λ (l : Option ℕ). AreLinked Q (block_at after) level l right None) (sym r.last_now) behind_it))
 
-    counted_now : (m : ℕ) → times m (blocks_of form after level (left ++ (new ++ right))) + times m old
-        ≡ times m (blocks_of form before level (left ++ (old ++ right))) + times m new
+    counted_now : (m : ℕ) → times m (blocks_of form after level row_now) + times m old ≡ times m (blocks_of form before level row) + times m new
     counted_now m =
         omega (
           arith,
-          ap (times m) (rest_regrouped form before after (left ++ (old ++ right)) (left ++ (new ++ right)) level items_now below_stays),
+          ap (times m) (rest_regrouped form before after row row_now level items_now below_stays),
           here m,
-          times_rows form after m level (left ++ (new ++ right)),
+          times_rows form after m level row_now,
           times_append m left (new ++ right),
           times_append m new right,
         )
 
     -- a block that comes in stood nowhere
-    fresh : (m : ℕ) → 1 ≤ times m new → times m old ≡ 0 → times m (blocks_of form before level (left ++ (old ++ right))) ≡ 0
-    fresh m some without = same_or_other (times m (blocks_of form before level (left ++ (old ++ right)))) 0
-        (λ none. none)
-        (λ more.
-        absurd (let lie : times m new ≡ 0 = not_new m (rows.owned m (omega (arith, more))).taken without in omega (arith, some, lie)))
+    once_now : (m : ℕ) → times m (blocks_of form after level row_now) ≤ 1
+    once_now m = grind (arith, r.once m, counted_now m, rows.once m, not_new m, λ (there : 1 ≤ times m (blocks_of form before level row)). (rows.owned m there).taken)
 
-    once_now : (m : ℕ) → times m (blocks_of form after level (left ++ (new ++ right))) ≤ 1
-    once_now m = grind (arith, fresh m, r.once m, counted_now m, rows.once m)
-
-    owned_now : (m : ℕ) → 1 ≤ times m (blocks_of form after level (left ++ (new ++ right))) → IsUsed (is_free after) (pool_size after) m
-    owned_now m some = same_or_other (times m old) 0
-        (λ without. same_or_other (times m new) 0
-        (λ none.
-        let used = rows.owned m (omega (arith, some, none, counted_now m)) in
-        record { from = used.from; below = subst (λ (pool : ℕ). m < pool) (sym r.same.pool) used.below; taken = r.free m without none ∙ used.taken })
-        (λ new_one.
-        let free = r.taken m (omega (arith, new_one)) without in
-        record { from = free.1; below = subst (λ (pool : ℕ). m < pool) (sym r.same.pool) free.2; taken = r.used m (omega (arith, new_one)) }))
-        (λ within.
-        let used = rows.owned m (omega (arith, within, here m)) in
+    owned_now : (m : ℕ) → 1 ≤ times m (blocks_of form after level row_now) → IsUsed (is_free after) (pool_size after) m
+    owned_now m some =
+        let had : 1 ≤ times m old → 1 ≤ times m (blocks_of form before level row) = λ within. omega (arith, within, here m) in
         record {
-          from = used.from;
-          below = subst (λ (pool : ℕ). m < pool) (sym r.same.pool) used.below;
-          taken = r.used m (omega (arith, within, some, counted_now m, rows.once m));
-        })
+          from = grind (arith, some, had, counted_now m, r.taken m, λ (there : 1 ≤ times m (blocks_of form before level row)). (rows.owned m there).from);
+          below = grind (arith, some, had, counted_now m, r.taken m, r.same.pool, λ (there : 1 ≤ times m (blocks_of form before level row)). (rows.owned m there).below);
+          taken = grind (arith, some, had, counted_now m, rows.once m, r.used m, r.free m, λ (there : 1 ≤ times m (blocks_of form before level row)). (rows.owned m there).taken);
+        }
 
-    rows_after : AreRowsIn form after (half form level) level (left ++ (new ++ right))
+    rows_after : AreRowsIn form after (half form level) level row_now
     rows_after = record {
-      rows = subst (λ (site : Site). AreRowsOf form site (block_at after) (tree_held form after) (half form level) level (left ++ (new ++ right))) (sym r.same.site)
-          (rows_regrouped form before after (left ++ (old ++ right)) (left ++ (new ++ right)) (site_of before) (half form level) level items_now below_stays linked_now rows.rows);
+      rows = subst (λ (site : Site). AreRowsOf form site (block_at after) (tree_held form after) (half form level) level row_now) (sym r.same.site)
+          (rows_regrouped form before after row row_now (site_of before) (half form level) level items_now below_stays linked_now rows.rows);
       once = once_now;
       owned = owned_now;
     }
 
-    bytes_after : (m : ℕ) → is_free before m ≡ false → times m (blocks_of form before level (left ++ (old ++ right))) ≡ 0 → block_at after m ≡ block_at before m
-    bytes_after m used none = untouched m used (omega (arith, none, here m)) (λ is. absurd (omega (arith, none, first_within right m is, here m)))
-
     -- what stands below them stays
-    pub dealt_below : (m : ℕ) → 1 ≤ times m (blocks_below form before level old) → block_at after m ≡ block_at before m
-    dealt_below m some = below_stays m (omega (arith, some, times_rest_append form before m level left (old ++ right), times_rest_append form before m level old right))
+    pub moves_below : (m : ℕ) → 1 ≤ times m (blocks_below form before level old) → block_at after m ≡ block_at before m
+    moves_below m some = below_stays m (omega (arith, some, times_rest_append form before m level left (old ++ right), times_rest_append form before m level old right))
 
-    pub dealt_records : records_of form after level new ≡ records_of form before level old
-    dealt_records = records_regrouped form before after old new level r.items dealt_below
+    pub moves_records : records_of form after level new ≡ records_of form before level old
+    moves_records = records_regrouped form before after old new level r.items moves_below
 
-  pub dealt_takes : (left right : List ℕ) → AreRowsIn form before (half form level) level (left ++ (old ++ right)) → Takes form before after level old new
-  dealt_takes left right rows =
+  pub moves_takes : (left right : List ℕ) → AreRowsIn form before (half form level) level (left ++ (old ++ right)) → Takes form before after level old new
+  moves_takes left right rows =
       let counts : (m : ℕ) → times m (blocks_of form after level new) + times m old ≡ times m (blocks_of form before level old) + times m new =
       λ m. omega (
         arith,
-        ap (times m) (rest_regrouped form before after old new level r.items (dealt_below left right rows)),
+        ap (times m) (rest_regrouped form before after old new level r.items (moves_below left right rows)),
         times_rows form before m level old,
         times_rows form after m level new,
       ) in
@@ -188,11 +183,8 @@ module _ {X : Type 0} (form : Form X) (laws : IsForm form) (before after : Block
             let without : times m old ≡ 0 = omega (arith, none, times_row form before m level old) in
             let out : times m new ≡ 0 = not_new m used without in
             (others_hold left right rows m used without, r.free m without out ∙ used, omega (arith, none, without, out, counts m));
-        bytes = bytes_after;
+        bytes = λ left right rows m used none.
+            untouched left right rows m used (omega (arith, none, here left right rows m)) (λ is. absurd (omega (arith, none, first_within right m is, here left right rows m)));
         freed = λ m some none. r.freed m (omega (arith, some, none, counts m)) (omega (arith, none, times_row form after m level new));
-        spare = λ m free none.
-            let out : times m new ≡ 0 = omega (arith, none, times_row form after m level new) in
-            same_or_other (times m old) 0
-            (λ without. r.free m without out ∙ free)
-            (λ within. r.freed m (omega (arith, within)) out);
+        spare = λ m free none. grind (arith, free, none, times_row form after m level new, r.free m, r.freed m);
       }

@@ -1,18 +1,16 @@
 -- The rows below some blocks: how often a block stands in them, what they are where blocks hold the same, and changes of what stands under
 -- a block: none, and one after another.
-use Rattle.std.proofs.Common.{⊎_elim, ◌≡◌, ℕ, ◌+◌, ◌≤◌, false, List, [], ◌∷◌, ◌++◌, refl, ap, ◌∙◌, arith, zero, suc, None, map, sym, subst}
+use Rattle.std.proofs.Common.{⊎_elim, ◌≡◌, ℕ, ◌+◌, ◌≤◌, false, List, [], ◌∷◌, ◌++◌, refl, ap, ◌∙◌, arith, zero, suc, None, map, sym, subst, length, append-nil, flat_map}
 use Rattle.std.proofs.lemmas.List.Concat.{flat_map-append}
 use Rattle.std.proofs.lemmas.Bool.{cases_eq}
-use Rattle.std.proofs.lemmas.List.{append-nil}
-use Rattle.std.specs.List.{concat, flat_map}
-use Rattle.xr_blocks.proofs.Times.{times_more, times_of, times_other, times_same}
+use Rattle.xr_blocks.proofs.Times.{times_of, times_other, times_same}
 use Rattle.xr_blocks.specs.Form.{Form}
 use Rattle.xr_blocks.specs.FrameLaws.{are_rows_same, flat_map_same, linked_same}
-use Rattle.xr_blocks.specs.Overlay.{Blocks, is_free, block_at}
-use Rattle.xr_blocks.specs.Rows.{half, AreNamed, AreRowsOf, Held, IsWholeLeaf, IsWholeNode, key_held, key_of_entries, key_of_records, leaves_from, named_below, rows_from}
+use Rattle.xr_blocks.specs.Overlay.{Blocks, is_free, block_at, pool_size}
+use Rattle.xr_blocks.specs.Rows.{half, AreNamed, AreRowsOf, IsWhole, IsWholeLeaf, IsWholeNode, key_held, key_of_entries, key_of_records, leaves_from, named_below, rows_from}
 use Rattle.xr_blocks.specs.Times.{times}
-use Rattle.xr_blocks.specs.Tree.{blocks_of, records_of, site_of, tree_held}
-use Rattle.xr_blocks.specs.TreeBlock.{Entry, Site, entries_in, records_in}
+use Rattle.xr_blocks.specs.Tree.{IsUsed, blocks_of, records_of, site_of, tree_held}
+use Rattle.xr_blocks.specs.TreeBlock.{Entry, Place, entries_in, records_in}
 use Rattle.xr_change.specs.Alters.{Alters, AreRowsIn, HoldsSame, IsSamePool, Takes}
 use Rattle.xr_change.specs.Ways.{item_count}
 
@@ -25,9 +23,23 @@ times_append n (x ∷ xs) ys = omega (arith, times_append n xs ys)
 
 -- a number that doesn't stand in a list of one is another one
 pub not_alone : (m n : ℕ) → times m (n ∷ []) ≡ 0 → m ≡ n → ⊥
-not_alone m n none is =
-    let here : times n (n ∷ []) ≡ 0 = subst (λ (k : ℕ). times k (n ∷ []) ≡ 0) is none in
-    absurd (omega (arith, here, times_same n []))
+not_alone m n none is = absurd (omega (arith, rw is at none, times_same n []))
+
+pub used_still : (a b : Blocks) (m : ℕ) → IsSamePool a b → is_free b m ≡ false → IsUsed (is_free a) (pool_size a) m → IsUsed (is_free b) (pool_size b) m
+used_still a b m same taken used = record { from = used.from; below = omega (arith, used.below, same.pool); taken = taken }
+
+-- a block that was given other items is whole at its place
+pub whole_given : {I : Type 0} (least most : ℕ) (made : Place → List I → List ℕ) (was now : ℕ → List I) (at at' : ℕ → List ℕ) (n : ℕ) (items : List I) (place : Place)
+    → place.number ≡ n → now n ≡ items → (at n ≡ made place (was n) → at' n ≡ made place items) → (least ≤ length (was n) → least ≤ length items) → length items ≤ most
+    → IsWhole least most made (was place.number) place (at place.number) → IsWhole least most made (now place.number) place (at' place.number)
+whole_given least most made was now at at' n items place is holds block many few whole =
+    let whole_n : IsWhole least most made (was n) place (at n) = subst (λ (m : ℕ). IsWhole least most made (was m) place (at m)) is whole in
+    subst (λ (m : ℕ). IsWhole least most made (now m) place (at' m)) (sym is)
+    (record {
+      whole = block whole_n.whole ∙ ap (made place) (sym holds);
+      least_items = omega (arith, many whole_n.least_items, ap length holds);
+      most_items = omega (arith, few, ap length holds);
+    })
 
 -- the blocks that some name
 abbrev pub children : {X : Type 0} → Form X → Blocks → List ℕ → List ℕ
@@ -45,9 +57,8 @@ module _ {X : Type 0} (form : Form X) (b : Blocks) where
   pub times_blocks_append : (n level : ℕ) (xs ys : List ℕ) → times n (blocks_of form b level (xs ++ ys)) ≡ times n (blocks_of form b level xs) + times n (blocks_of form b level ys)
   times_blocks_append n zero xs ys = omega (arith, times_leaves n (xs ++ ys), times_leaves n xs, times_leaves n ys, times_append n xs ys)
   times_blocks_append n (suc level) xs ys =
-      let split = ap (λ (row : List ℕ). times n (blocks_of form b level row)) (flat_map-append (named_below (tree_held form b)) xs ys)
-      ∙ times_blocks_append n level (children form b xs) (children form b ys) in
-      omega (arith, split, times_append n xs ys, times_below n level (xs ++ ys), times_below n level xs, times_below n level ys)
+      let split = ap (λ (row : List ℕ). times n (blocks_of form b level row)) (flat_map-append (named_below (tree_held form b)) xs ys) in
+      omega (arith, split, times_blocks_append n level (children form b xs) (children form b ys), times_append, times_below)
 
   -- blocks of a row between others
   pub times_parts : (n level : ℕ) (pre mid post : List ℕ)
@@ -60,17 +71,10 @@ module _ {X : Type 0} (form : Form X) (b : Blocks) where
   times_row n zero row = omega (arith, times_leaves n row)
   times_row n (suc level) row = omega (arith, times_below n level row)
 
-  leaves_append : (level : ℕ) (xs ys : List ℕ)
-      → leaves_from (tree_held form b) level (xs ++ ys) ≡ leaves_from (tree_held form b) level xs ++ leaves_from (tree_held form b) level ys
-  unfolding leaves_from
-  leaves_append zero xs ys = refl
-  leaves_append (suc level) xs ys =
-      ap (leaves_from (tree_held form b) level) (flat_map-append (named_below (tree_held form b)) xs ys) ∙ leaves_append level (children form b xs) (children form b ys)
-
   pub records_append : (level : ℕ) (xs ys : List ℕ) → records_of form b level (xs ++ ys) ≡ records_of form b level xs ++ records_of form b level ys
-  records_append level xs ys =
-      ap (flat_map (tree_held form b).records) (leaves_append level xs ys)
-      ∙ flat_map-append (tree_held form b).records (leaves_from (tree_held form b) level xs) (leaves_from (tree_held form b) level ys)
+  unfolding leaves_from
+  records_append zero xs ys = flat_map-append (tree_held form b).records xs ys
+  records_append (suc level) xs ys = rw (flat_map-append (named_below (tree_held form b)) xs ys) (records_append level (children form b xs) (children form b ys))
 
   pub records_below : (level : ℕ) (row : List ℕ) → records_of form b (suc level) row ≡ records_of form b level (children form b row)
   unfolding leaves_from
@@ -88,22 +92,20 @@ module _ {X : Type 0} (form : Form X) (b : Blocks) where
         omega (arith, times_below m level (n ∷ []), ap (λ (row : List ℕ). times m (blocks_of form b level row)) children_alone, times_parts m level front mid behind)
 
     pub records_under_node : records_of form b (suc level) (n ∷ []) ≡ records_of form b level front ++ (records_of form b level mid ++ records_of form b level behind)
-    records_under_node =
-        records_below level (n ∷ []) ∙ ap (records_of form b level) children_alone ∙ records_append level front (mid ++ behind)
-        ∙ ap (λ (rs : List X). records_of form b level front ++ rs) (records_append level mid behind)
+    records_under_node = records_below level (n ∷ []) ∙ rw (children_alone, records_append level front (mid ++ behind), records_append level mid behind) refl
 
   -- the rows below a row
   pub below : (least level : ℕ) (row : List ℕ) → AreRowsIn form b least (suc level) row → AreRowsIn form b (half form level) level (children form b row)
   unfolding AreRowsOf
   below least level row known = record {
-    rows = let rows = known.rows in rows.2;
+    rows = known.rows.2;
     once = λ m. omega (arith, known.once m, times_below m level row);
     owned = λ m some. known.owned m (omega (arith, some, times_below m level row));
   }
 
   pub rows_named : (least level : ℕ) (row : List ℕ) → AreRowsIn form b least (suc level) row → AreNamed form (tree_held form b) level row
   unfolding AreRowsOf
-  rows_named least level row known = let rows = known.rows in rows.1
+  rows_named least level row known = known.rows.1
 
   -- blocks with more items than one bound have more than another
   linked_least : (least least' level : ℕ) (row : List ℕ)
@@ -132,26 +134,8 @@ module _ {X : Type 0} (form : Form X) (b : Blocks) where
 
   pub least_alone : (least least' level n : ℕ) → AreRowsIn form b least level (n ∷ []) → least' ≤ item_count form b level n → AreRowsIn form b least' level (n ∷ [])
   least_alone least least' level n known many =
-      least_down least least' level (n ∷ []) known (λ m some before. same_or_other n m
-      (λ same. subst (λ (k : ℕ). least' ≤ item_count form b level k) same many)
-      (λ other. absurd (omega (arith, some, times_other m n [] other))))
-
--- a node gives its children the keys that they have
-abbrev pub IsNamedAt : {X : Type 0} → Form X → Held X → ℕ → ℕ → Type 0
-IsNamedAt form held level n = map (λ (e : Entry). e.key) (held.entries n) ≡ map (key_held form held level) (named_below held n)
-
-module _ {X : Type 0} (form : Form X) (held : Held X) (level : ℕ) where
-  pub named_all : (row : List ℕ) → ((m : ℕ) → 1 ≤ times m row → IsNamedAt form held level m) → AreNamed form held level row
-  unfolding AreNamed
-  named_all [] each = tt
-  named_all (n ∷ ns) each = (each n (omega (arith, times_same n ns)), named_all ns (λ m some. each m (omega (arith, some, times_more m n ns))))
-
-  pub named_each : (row : List ℕ) → AreNamed form held level row → (m : ℕ) → 1 ≤ times m row → IsNamedAt form held level m
-  unfolding AreNamed
-  named_each [] named m some = absurd (omega (arith, some))
-  named_each (n ∷ ns) named m some = same_or_other n m
-      (λ same. subst (IsNamedAt form held level) same named.0)
-      (λ other. named_each ns named.1 m (omega (arith, some, times_other m n ns other)))
+      least_down least least' level (n ∷ []) known (λ m some before.
+      same_or_other n m (λ same. rw (← same) many) (λ other. absurd (omega (arith, some, times_other m n [] other))))
 
 module _ {X : Type 0} (form : Form X) (a b : Blocks) where
   -- each of some blocks holds in b what it holds in a
@@ -167,41 +151,28 @@ module _ {X : Type 0} (form : Form X) (a b : Blocks) where
   key_same zero m same = ap (key_of_records form) same.same_records
   key_same (suc level) m same = ap (key_of_entries form) same.same_entries
 
-  pub children_same : (row : List ℕ) → HoldSame row → children form b row ≡ children form a row
-  children_same row same =
-      flat_map_same (named_below (tree_held form b)) (named_below (tree_held form a)) row
-      (λ m within. let holds = same m (times_of row m within) in ap (map (λ (e : Entry). e.child)) holds.same_entries)
-
-  first_same : (level : ℕ) (row : List ℕ) → HoldSame (blocks_of form a (suc level) row) → HoldSame row
-  first_same level row same m some = same m (omega (arith, some, times_below form a m level row))
-
-  rest_same : (level : ℕ) (row : List ℕ) → HoldSame (blocks_of form a (suc level) row) → HoldSame (blocks_of form a level (children form a row))
-  rest_same level row same m some = same m (omega (arith, some, times_below form a m level row))
+  below_same : (level : ℕ) (row : List ℕ) → HoldSame (blocks_of form a (suc level) row)
+      → (children form b row ≡ children form a row) × HoldSame (blocks_of form a level (children form a row))
+  below_same level row same = (
+    flat_map_same (named_below (tree_held form b)) (named_below (tree_held form a)) row
+        (λ m within. ap (map (λ (e : Entry). e.child)) (same m (omega (arith, times_of row m within, times_below form a m level row))).same_entries),
+    λ m some. same m (omega (arith, some, times_below form a m level row)),
+  )
 
   -- where all blocks of the rows from one on down hold the same, these rows are the same
-  pub same_rows : (level : ℕ) (row : List ℕ) → HoldSame (blocks_of form a level row) → rows_from (tree_held form b) level row ≡ rows_from (tree_held form a) level row
-  unfolding rows_from
-  same_rows zero row same = refl
-  same_rows (suc level) row same =
-      ap (λ (rows : List (List ℕ)). row ∷ rows)
-      (ap (rows_from (tree_held form b) level) (children_same row (first_same level row same)) ∙ same_rows level (children form a row) (rest_same level row same))
-
-  pub leaves_same : (level : ℕ) (row : List ℕ) → HoldSame (blocks_of form a level row) → leaves_from (tree_held form b) level row ≡ leaves_from (tree_held form a) level row
-  unfolding leaves_from
-  leaves_same zero row same = refl
-  leaves_same (suc level) row same =
-      ap (leaves_from (tree_held form b) level) (children_same row (first_same level row same)) ∙ leaves_same level (children form a row) (rest_same level row same)
-
   pub blocks_same : (level : ℕ) (row : List ℕ) → HoldSame (blocks_of form a level row) → blocks_of form b level row ≡ blocks_of form a level row
-  blocks_same level row same = ap concat (same_rows level row same)
+  unfolding rows_from
+  blocks_same zero row same = refl
+  blocks_same (suc level) row same =
+      let down = below_same level row same in ap (λ (blocks : List ℕ). row ++ blocks) (ap (blocks_of form b level) down.0 ∙ blocks_same level (children form a row) down.1)
 
   pub records_same : (level : ℕ) (row : List ℕ) → HoldSame (blocks_of form a level row) → records_of form b level row ≡ records_of form a level row
   unfolding leaves_from
   records_same zero row same =
       flat_map_same (tree_held form b).records (tree_held form a).records row
-      (λ m within. let holds = same m (omega (arith, times_leaves form a m row, times_of row m within)) in holds.same_records)
+      (λ m within. (same m (omega (arith, times_leaves form a m row, times_of row m within))).same_records)
   records_same (suc level) row same =
-      ap (records_of form b level) (children_same row (first_same level row same)) ∙ records_same level (children form a row) (rest_same level row same)
+      let down = below_same level row same in ap (records_of form b level) down.0 ∙ records_same level (children form a row) down.1
 
   -- rows stay where their blocks have the same bytes and aren't free
   pub rows_stay : (least level : ℕ) (row : List ℕ) → AreRowsIn form a least level row → IsSamePool a b
@@ -209,14 +180,12 @@ module _ {X : Type 0} (form : Form X) (a b : Blocks) where
   rows_stay least level row known pool stay =
       let same = blocks_same level row (λ m some. holds_same m (stay m some).0) in
       record {
-        rows = subst (λ (site : Site). AreRowsOf form site (block_at b) (tree_held form b) least level row) (sym pool.site)
-            (are_rows_same form (block_at a) (block_at b) (site_of a) least level row
+        rows = rw pool.site (are_rows_same form (block_at a) (block_at b) (site_of a) least level row
             (λ m within. (stay m (times_of (blocks_of form a level row) m within)).0) known.rows);
-        once = λ m. subst (λ (blocks : List ℕ). times m blocks ≤ 1) (sym same) (known.once m);
+        once = λ m. rw same (known.once m);
         owned = λ m some.
-            let there : 1 ≤ times m (blocks_of form a level row) = subst (λ (blocks : List ℕ). 1 ≤ times m blocks) same some in
-            let used = known.owned m there in
-            record { from = used.from; below = subst (λ (size : ℕ). suc m ≤ size) (sym pool.pool) used.below; taken = (stay m there).1 };
+            let there : 1 ≤ times m (blocks_of form a level row) = omega (arith, some, ap (times m) same) in
+            used_still a b m pool (stay m there).1 (known.owned m there);
       }
 
 pub pool_then : (a b c : Blocks) → IsSamePool a b → IsSamePool b c → IsSamePool a c

@@ -1,49 +1,42 @@
 -- Records that ascend, with one more, one less, or another in the place of one, by the place where it stands.
-use Rattle.std.proofs.Common.{◌≡◌, ℕ, zero, suc, ◌+◌, ◌<◌, ◌≤◌, Bool, true, false, if◌then◌else◌, List, [], ◌∷◌, ◌++◌, length, get_or, refl, sym, ap, ◌∙◌, subst, arith, ⊎_elim}
-use Rattle.std.proofs.lemmas.Bool.{cases_lt, cond_both}
+use Rattle.std.proofs.Common.{◌≡◌, ℕ, zero, suc, ◌+◌, ◌<◌, ◌≤◌, Bool, true, false, if◌then◌else◌, List, [], ◌∷◌, ◌++◌, length, get_or, refl, sym, ap, ◌∙◌, arith}
+use Rattle.std.proofs.lemmas.Bool.{cond_both}
 use Rattle.std.proofs.lemmas.Cmp.{tied_itself}
 use Rattle.std.proofs.lemmas.List.{get_or-append-add, get_or_append_left, get_or_default, length-append}
 use Rattle.std.proofs.lemmas.List.Elements.{All-cons, All-contains, All-tail, Contains-append_right}
-use Rattle.std.proofs.lemmas.List.Kept.{AllPairs-cons}
+use Rattle.std.proofs.lemmas.List.Edits.{length-remove}
+use Rattle.std.proofs.lemmas.List.Quantifiers.{all_pairs_remove}
 use Rattle.std.specs.Cmp.{IsTotalOrder}
 use Rattle.std.specs.List.{All, AllPairs, Contains, insert, remove, slice_set}
 use Rattle.std.specs.Ordering.{is_eq, is_lt, ordering_reverse}
 use Rattle.std.specs.declared.cmp.Ordering.{Ordering}
-use Rattle.std.specs.declared.cmp.Ordering.TheVariants.{Less, Equal, Greater}
+use Rattle.std.specs.declared.cmp.Ordering.TheVariants.{Less, Equal}
 use Rattle.xr_blocks.specs.Form.{Form, IsForm}
 use Rattle.xr_blocks.specs.Tree.{AreRecords}
-use Rattle.xr_change.proofs.RowBlocks.{same_or_other}
 use Rattle.xr_change.specs.Sets.{inserted, removed, replaced}
 use Rattle.xr_lookup.specs.Cuts.{IsPlaceOf}
+
+-- the place among all items but the first
+pub place_down : {X : Type 0} {test : X → Bool} {x : X} {xs : List X} {k : ℕ} → IsPlaceOf test (x ∷ xs) (suc k) → IsPlaceOf test xs k
+place_down place = record {
+  within = omega (arith, place.within);
+  below = λ i d from within. place.below (suc i) d (omega arith) (omega (arith, within));
+  from = λ i d from within. place.from (suc i) d (omega (arith, from)) (omega (arith, within));
+}
 
 module _ {X : Type 0} (order : X → X → Ordering) (r : X) where
   abbrev pub IsPlaceFor : List X → ℕ → Type 0
   IsPlaceFor xs k = IsPlaceOf (λ (x : X). is_lt (order x r)) xs k
 
-  place_down : (x : X) (xs : List X) (k : ℕ) → IsPlaceFor (x ∷ xs) (suc k) → IsPlaceFor xs k
-  place_down x xs k place = record {
-    within = omega (arith, place.within);
-    below = λ i d from within. place.below (suc i) d (omega arith) (omega (arith, within));
-    from = λ i d from within. place.from (suc i) d (omega (arith, from)) (omega (arith, within));
-  }
-
-  first_less : (x : X) (xs : List X) (k : ℕ) → IsPlaceFor (x ∷ xs) (suc k) → is_lt (order x r) ≡ true
-  first_less x xs k place = place.below 0 x (omega arith) (omega arith)
-
-  first_not_less : (x : X) (xs : List X) → IsPlaceFor (x ∷ xs) 0 → is_lt (order x r) ≡ false
-  first_not_less x xs place = place.from 0 x (omega arith) (omega arith)
-
   pub inserted_at : (xs : List X) (k : ℕ) → IsPlaceFor xs k → insert xs k r ≡ inserted order r xs
   unfolding inserted
   inserted_at [] zero place = refl
   inserted_at [] (suc k) place = absurd (omega (arith, place.within))
-  inserted_at (x ∷ xs) zero place = rw (first_not_less x xs place) refl
-  inserted_at (x ∷ xs) (suc k) place = rw (first_less x xs k place) (ap (λ (rest : List X). x ∷ rest) (inserted_at xs k (place_down x xs k place)))
+  inserted_at (x ∷ xs) zero place = rw (place.from 0 x (omega arith) (omega arith)) refl
+  inserted_at (x ∷ xs) (suc k) place = rw (place.below 0 x (omega arith) (omega arith)) (ap (λ (rest : List X). x ∷ rest) (inserted_at xs k (place_down place)))
 
   not_equal : (o : Ordering) → is_lt o ≡ true → is_eq o ≡ false
-  not_equal Less less = refl
-  not_equal Equal less = cc less
-  not_equal Greater less = cc less
+  not_equal o less = grind (arith, less)
 
   -- the record itself stands at the place
   pub removed_at : (xs : List X) (k : ℕ) → IsPlaceFor xs k → k < length xs → ((d : X) → is_eq (order (get_or xs k d) r) ≡ true) → remove xs k ≡ removed order r xs
@@ -51,7 +44,7 @@ module _ {X : Type 0} (order : X → X → Ordering) (r : X) where
   removed_at [] k place within here = absurd (omega (arith, within))
   removed_at (x ∷ xs) zero place within here = rw (here x) refl
   removed_at (x ∷ xs) (suc k) place within here =
-      rw (not_equal (order x r) (first_less x xs k place)) (ap (λ (rest : List X). x ∷ rest) (removed_at xs k (place_down x xs k place) (omega (arith, within)) here))
+      rw (not_equal (order x r) (place.below 0 x (omega arith) (omega arith))) (ap (λ (rest : List X). x ∷ rest) (removed_at xs k (place_down place) (omega (arith, within)) here))
 
   pub replaced_at : (new : X) (xs : List X) (k : ℕ) → IsPlaceFor xs k → k < length xs → ((d : X) → is_eq (order (get_or xs k d) r) ≡ true)
       → slice_set xs k new ≡ replaced order r new xs
@@ -59,64 +52,52 @@ module _ {X : Type 0} (order : X → X → Ordering) (r : X) where
   replaced_at new [] k place within here = absurd (omega (arith, within))
   replaced_at new (x ∷ xs) zero place within here = rw (here x) refl
   replaced_at new (x ∷ xs) (suc k) place within here =
-      rw (not_equal (order x r) (first_less x xs k place)) (ap (λ (rest : List X). x ∷ rest) (replaced_at new xs k (place_down x xs k place) (omega (arith, within)) here))
+      rw (not_equal (order x r) (place.below 0 x (omega arith) (omega arith)))
+      (ap (λ (rest : List X). x ∷ rest) (replaced_at new xs k (place_down place) (omega (arith, within)) here))
 
 -- a record of a list that ascends stands at its place
 module _ {X : Type 0} (order : X → X → Ordering) (total : IsTotalOrder order) (r : X) (xs : List X)
     (ascend : AllPairs (λ (x y : X). order x y ≡ Less) xs) (k : ℕ) (place : IsPlaceFor order r xs k) where
-  not_before : (j : ℕ) → j < k → get_or xs j r ≡ r → ⊥
-  not_before j below is =
-      let less = place.below j r (omega arith) below in
-      let lie : is_lt Equal ≡ true = ap is_lt (sym (tied_itself total r)) ∙ ap (λ (x : X). is_lt (order x r)) (sym is) ∙ less in
-      absurd cc
-
-  not_behind : (j : ℕ) → j < length xs → k < j → get_or xs j r ≡ r → ⊥
-  not_behind j within above is =
-      let less : order (get_or xs k r) r ≡ Less = ap (order (get_or xs k r)) (sym is) ∙ ascend k j r above within in
-      let lie = sym (ap is_lt less) ∙ place.from k r (omega arith) (omega (arith, within, above)) in
-      absurd cc
-
   pub stands_at : Contains xs r → (k < length xs) × ((d : X) → is_eq (order (get_or xs k d) r) ≡ true)
-  stands_at found =
-      let j = found.0 in
-      same_or_other j k
-      (λ same.
-      let within : k < length xs = subst (λ (i : ℕ). i < length xs) same found.1 in (
-        within,
-        λ d.
-            let here : get_or xs k d ≡ r = get_or_default xs k d r within ∙ subst (λ (i : ℕ). get_or xs i r ≡ r) same found.2 in
-            ap (λ (x : X). is_eq (order x r)) here ∙ ap is_eq (tied_itself total r),
-      ))
-      (λ other. ⊎_elim
-      (λ (below : j < k). absurd (not_before j below found.2))
-      (λ (above : k ≤ j). absurd (not_behind j found.1 (omega (arith, above, other)) found.2))
-      (cases_lt j k))
+  stands_at (j, there, is) =
+      let less : is_lt Less ≡ true = refl in
+      let equal : is_lt Equal ≡ false = refl in
+      let same : j ≡ k = grind (arith, there, is, less, equal, place.below j r, place.from k r, ascend k j r, tied_itself total r) in
+      let within : k < length xs = omega (arith, there, same) in
+      (within, λ d. ap (λ (x : X). is_eq (order x r)) (get_or_default xs k d r within ∙ ap (λ (i : ℕ). get_or xs i r) (sym same) ∙ is) ∙ ap is_eq (tied_itself total r))
 
 -- a record that isn't the first of a list stands behind it
 later : {X : Type 0} (order : X → X → Ordering) (total : IsTotalOrder order) (r x : X) (xs : List X) → Contains (x ∷ xs) r → is_eq (order x r) ≡ false → Contains xs r
-later order total r x xs (zero, within, is) other =
-    let same : is_eq (order x r) ≡ true = ap (λ (y : _). is_eq (order y r)) is ∙ ap is_eq (tied_itself total r) in
-    let lie = sym same ∙ other in absurd cc
+later order total r x xs (zero, within, is) other = let equal : is_eq Equal ≡ true = refl in grind (arith, is, other, equal, tied_itself total r)
 later order total r x xs (suc k, within, is) other = (k, omega (arith, within), is)
 
 -- what is chosen in front of some items
 chosen_front : {X : Type 0} (test : Bool) (xs ys us vs zs : List X) → (test ≡ true → xs ≡ us ++ zs) → (test ≡ false → ys ≡ vs ++ zs)
     → (if test then xs else ys) ≡ (if test then us else vs) ++ zs
-chosen_front true xs ys us vs zs one other = one refl
-chosen_front false xs ys us vs zs one other = other refl
+chosen_front test xs ys us vs zs one other = grind (arith, one, other)
 
 -- only the part of a list of records changes in which a record belongs
 module _ {X : Type 0} (order : X → X → Ordering) (total : IsTotalOrder order) (r : X) where
-  less_down : (x : X) (xs : List X) → All (λ (y : X). order y r ≡ Less) (x ∷ xs) → (order x r ≡ Less) × All (λ (y : X). order y r ≡ Less) xs
-  less_down x xs all = (all 0 x (omega arith), λ k d within. all (suc k) d (omega (arith, within)))
+  -- an edit that passes what is below the record
+  past_front : (edit : List X → List X) → ((x : X) (xs : List X) → order x r ≡ Less → edit (x ∷ xs) ≡ x ∷ edit xs) → (front xs : List X)
+      → All (λ (y : X). order y r ≡ Less) front → edit (front ++ xs) ≡ front ++ edit xs
+  past_front edit past [] xs below = refl
+  past_front edit past (x ∷ front) xs below =
+      past x (front ++ xs) (below 0 x (omega arith))
+      ∙ ap (λ (rest : List X). x ∷ rest) (past_front edit past front xs (λ k d within. below (suc k) d (omega (arith, within))))
 
-  above_first : (x : X) (xs : List X) → All (λ (y : X). order r y ≡ Less) (x ∷ xs) → order x r ≡ Greater
-  above_first x xs all = total.antisymm x r ∙ ap ordering_reverse (all 0 x (omega arith))
+  -- and one of the record itself
+  edited_front : (edit put : List X → List X) → ((x : X) (xs : List X) → edit (x ∷ xs) ≡ (if is_eq (order x r) then put xs else x ∷ edit xs))
+      → ((xs zs : List X) → put (xs ++ zs) ≡ put xs ++ zs) → (xs zs : List X) → Contains xs r → edit (xs ++ zs) ≡ edit xs ++ zs
+  edited_front edit put step puts [] zs found = absurd (omega (arith, found.1))
+  edited_front edit put step puts (x ∷ xs) zs found =
+      step x (xs ++ zs) ∙ chosen_front (is_eq (order x r)) (put (xs ++ zs)) (x ∷ edit (xs ++ zs)) (put xs) (x ∷ edit xs) zs (λ is. puts xs zs)
+      (λ is. ap (λ (rest : List X). x ∷ rest) (edited_front edit put step puts xs zs (later order total r x xs found is))) ∙ ap (λ (ys : List X). ys ++ zs) (sym (step x xs))
 
   inserted_first : (zs : List X) → All (λ (y : X). order r y ≡ Less) zs → inserted order r zs ≡ r ∷ zs
   unfolding inserted
   inserted_first [] above = refl
-  inserted_first (z ∷ zs) above = rw (above_first z zs above) refl
+  inserted_first (z ∷ zs) above = rw (total.antisymm z r ∙ ap ordering_reverse (above 0 z (omega arith))) refl
 
   inserted_front : (xs zs : List X) → All (λ (y : X). order r y ≡ Less) zs → inserted order r (xs ++ zs) ≡ inserted order r xs ++ zs
   unfolding inserted
@@ -128,72 +109,45 @@ module _ {X : Type 0} (order : X → X → Ordering) (total : IsTotalOrder order
   pub inserted_between : (front xs behind : List X) → All (λ (y : X). order y r ≡ Less) front → All (λ (y : X). order r y ≡ Less) behind
       → inserted order r (front ++ (xs ++ behind)) ≡ front ++ (inserted order r xs ++ behind)
   unfolding inserted
-  inserted_between [] xs behind below above = inserted_front xs behind above
-  inserted_between (x ∷ front) xs behind below above =
-      let parts = less_down x front below in
-      rw parts.0 (ap (λ (rest : List X). x ∷ rest) (inserted_between front xs behind parts.1 above))
-
-  removed_front : (xs zs : List X) → Contains xs r → removed order r (xs ++ zs) ≡ removed order r xs ++ zs
-  unfolding removed
-  removed_front [] zs found = absurd (omega (arith, found.1))
-  removed_front (x ∷ xs) zs found =
-      chosen_front (is_eq (order x r)) (xs ++ zs) (x ∷ removed order r (xs ++ zs)) xs (x ∷ removed order r xs) zs (λ is. refl)
-      (λ is. ap (λ (rest : List X). x ∷ rest) (removed_front xs zs (later order total r x xs found is)))
+  inserted_between front xs behind below above =
+      past_front (inserted order r) (λ x ys less. rw less refl) front (xs ++ behind) below ∙ ap (λ (rest : List X). front ++ rest) (inserted_front xs behind above)
 
   pub removed_between : (front xs behind : List X) → All (λ (y : X). order y r ≡ Less) front → Contains xs r
       → removed order r (front ++ (xs ++ behind)) ≡ front ++ (removed order r xs ++ behind)
   unfolding removed
-  removed_between [] xs behind below found = removed_front xs behind found
-  removed_between (x ∷ front) xs behind below found =
-      let parts = less_down x front below in
-      rw parts.0 (ap (λ (rest : List X). x ∷ rest) (removed_between front xs behind parts.1 found))
-
-  replaced_front : (new : X) (xs zs : List X) → Contains xs r → replaced order r new (xs ++ zs) ≡ replaced order r new xs ++ zs
-  unfolding replaced
-  replaced_front new [] zs found = absurd (omega (arith, found.1))
-  replaced_front new (x ∷ xs) zs found =
-      chosen_front (is_eq (order x r)) (new ∷ (xs ++ zs)) (x ∷ replaced order r new (xs ++ zs)) (new ∷ xs) (x ∷ replaced order r new xs) zs (λ is. refl)
-      (λ is. ap (λ (rest : List X). x ∷ rest) (replaced_front new xs zs (later order total r x xs found is)))
+  removed_between front xs behind below found =
+      past_front (removed order r) (λ x ys less. rw less refl) front (xs ++ behind) below
+      ∙ ap (λ (rest : List X). front ++ rest) (edited_front (removed order r) (λ ys. ys) (λ x ys. refl) (λ ys zs. refl) xs behind found)
 
   pub replaced_between : (new : X) (front xs behind : List X) → All (λ (y : X). order y r ≡ Less) front → Contains xs r
       → replaced order r new (front ++ (xs ++ behind)) ≡ front ++ (replaced order r new xs ++ behind)
   unfolding replaced
-  replaced_between new [] xs behind below found = replaced_front new xs behind found
-  replaced_between new (x ∷ front) xs behind below found =
-      let parts = less_down x front below in
-      rw parts.0 (ap (λ (rest : List X). x ∷ rest) (replaced_between new front xs behind parts.1 found))
+  replaced_between new front xs behind below found =
+      past_front (replaced order r new) (λ x ys less. rw less refl) front (xs ++ behind) below
+      ∙ ap (λ (rest : List X). front ++ rest) (edited_front (replaced order r new) (λ ys. new ∷ ys) (λ x ys. refl) (λ ys zs. refl) xs behind found)
 
 -- what stands in front of a record of a list that ascends is below it
 pub front_below : {X : Type 0} (order : X → X → Ordering) (front ys : List X) (r : X) → AllPairs (λ (x y : X). order x y ≡ Less) (front ++ ys) → Contains ys r
     → All (λ (x : X). order x r ≡ Less) front
 front_below order front ys r pairs (j, within, is) k d inside =
     let both = pairs k (length front + j) d (omega (arith, inside)) (omega (arith, within, length-append front ys)) in
-    let last : get_or (front ++ ys) (length front + j) d ≡ r = get_or-append-add front ys j d ∙ get_or_default ys j d r within ∙ is in
-    ap (λ (x : _). order x r) (sym (get_or_append_left front ys d k inside)) ∙ ap (order (get_or (front ++ ys) k d)) (sym last) ∙ both
+    cc (both, is, get_or-append-add front ys j d, get_or_default ys j d r within, get_or_append_left front ys d k inside)
 
--- a list with one record less keeps what holds of each and of each pair
 module _ {X : Type 0} (order : X → X → Ordering) (r : X) where
+  -- what holds of a list and of it without one record
+  removed_is : (P : List X → Type 0) (xs : List X) → P xs → ((k : ℕ) → k < length xs → P (remove xs k)) → P (removed order r xs)
+  unfolding removed
+  removed_is P [] same less = same
+  removed_is P (x ∷ xs) same less =
+      cond_both (is_eq (order x r)) xs (x ∷ removed order r xs) P (λ is. less 0 (omega arith))
+      (λ is. removed_is (λ (ys : List X). P (x ∷ ys)) xs same (λ k within. less (suc k) (omega (arith, within))))
+
   all_removed : (P : X → Type 0) (xs : List X) → All P xs → All P (removed order r xs)
   unfolding removed
   all_removed P [] all = all
   all_removed P (x ∷ xs) all =
       let rest = All-tail P x xs all in
       cond_both (is_eq (order x r)) xs (x ∷ removed order r xs) (All P) (λ is. rest) (λ is. All-cons P x (removed order r xs) (all 0 x (omega arith)) (all_removed P xs rest))
-
-  pairs_removed : (R : X → X → Type 0) (xs : List X) → AllPairs R xs → AllPairs R (removed order r xs)
-  unfolding removed
-  pairs_removed R [] pairs = pairs
-  pairs_removed R (x ∷ xs) pairs =
-      let first : All (R x) xs = λ k d within. pairs 0 (suc k) d (omega arith) (omega (arith, within)) in
-      let rest : AllPairs R xs = λ i j d less within. pairs (suc i) (suc j) d (omega (arith, less)) (omega (arith, within)) in
-      cond_both (is_eq (order x r)) xs (x ∷ removed order r xs) (AllPairs R) (λ is. rest)
-      (λ is. AllPairs-cons R x (removed order r xs) (all_removed (R x) xs first) (pairs_removed R xs rest))
-
-  length_removed : (xs : List X) → length (removed order r xs) ≤ length xs
-  unfolding removed
-  length_removed [] = omega arith
-  length_removed (x ∷ xs) =
-      cond_both (is_eq (order x r)) xs (x ∷ removed order r xs) (λ (ys : List X). length ys ≤ suc (length xs)) (λ is. omega arith) (λ is. omega (arith, length_removed xs))
 
   -- a record that stands in the place of another is one of the list
   replaced_holds : IsTotalOrder order → (new : X) (xs : List X) → Contains xs r → Contains (replaced order r new xs) new
@@ -209,9 +163,9 @@ module _ {X : Type 0} (order : X → X → Ordering) (r : X) where
 pub removed_rules : {X : Type 0} (form : Form X) (r : X) (xs : List X) → AreRecords form xs → AreRecords form (removed form.order r xs)
 removed_rules form r xs rules = record {
   valid = all_removed form.order r (λ x. form.is_valid x ≡ true) xs rules.valid;
-  ascend = pairs_removed form.order r (λ x y. form.order x y ≡ Less) xs rules.ascend;
-  agree = pairs_removed form.order r (λ x y. form.agree x y ≡ true) xs rules.agree;
-  few = omega (arith, length_removed form.order r xs, rules.few);
+  ascend = removed_is form.order r (AllPairs (λ x y. form.order x y ≡ Less)) xs rules.ascend (λ k within. all_pairs_remove (λ x y. form.order x y ≡ Less) xs k within rules.ascend);
+  agree = removed_is form.order r (AllPairs (λ x y. form.agree x y ≡ true)) xs rules.agree (λ k within. all_pairs_remove (λ x y. form.agree x y ≡ true) xs k within rules.agree);
+  few = removed_is form.order r (λ ys. length ys ≤ form.most) xs rules.few (λ k within. omega (arith, length-remove xs k within, rules.few));
 }
 
 pub replaced_valid : {X : Type 0} (form : Form X) → IsForm form → (old new : X) (xs : List X) → Contains xs old → AreRecords form (replaced form.order old new xs)

@@ -2,7 +2,7 @@
 use Rattle.std.proofs.Common.{◌≡◌, ◌↔◌, Bool, IsTrue, ℕ, suc, ◌+◌, ◌-◌, ◌*◌, ◌<◌, ◌≤◌, Option, Some, List, [], ◌∷◌, ◌++◌, length, map, take, drop, get_or, refl, sym, ap, ◌∙◌, arith, drop-cons}
 use Rattle.std.specs.Cmp.Lexicographic.{slice_cmp, slice_partial_cmp}
 use Rattle.std.specs.Ordering.{is_lt, is_some_and, nat_cmp, ordering_then, partial_ordering_then}
-use Rattle.std.proofs.lemmas.List.{drop_all, drop_at, length-drop, length-take-le, take-append-drop, take_all, take_at}
+use Rattle.std.proofs.lemmas.List.{drop_all, drop_at, length-drop, length-take-le, nil_from_length, take-append-drop, take_all, take_at}
 use Rattle.std.proofs.Math.Nat.{mul-le-mul_right}
 use Rattle.xr_base.specs.declared.geometry.TheConstants.{BLOCK_BYTES}
 use Rattle.xr_blocks.specs.Form.{Form, IsForm, header_size, key_size}
@@ -34,6 +34,13 @@ rest_all key n = take_all (length key - n) (drop n key) (omega (arith, length-dr
 
 from_nth : {X : Type 0} (xs : List X) (k : ℕ) (d : X) → k < length xs → drop k xs ≡ get_or xs k d ∷ drop (k + 1) xs
 from_nth xs k d within = drop-cons xs k d within ∙ ap (λ (m : ℕ). get_or xs k d ∷ drop m xs) (let e : suc k ≡ k + 1 = omega arith in e)
+
+-- the greatest of keys without bytes
+pub greatest_none : {X : Type 0} (key : X → List ℕ) (xs : List X) → ((x : X) → length (key x) ≡ 0) → greatest_key (map key xs) ≡ []
+unfolding greatest_key
+greatest_none key [] none = refl
+greatest_none key (x ∷ xs) none =
+    ap (greater_key (key x)) (greatest_none key xs none) ∙ nothing_less (key x) ∙ nil_from_length (key x) (none x)
 
 -- the greatest key of the last item, and of one more
 pub greatest_last : {X : Type 0} (key : X → List ℕ) (xs : List X) (k : ℕ) (last : List ℕ) → length xs ≡ k + 1 → ((d : X) → last ≡ key (get_or xs k d))

@@ -56,7 +56,7 @@ fn keep_greater(next: &[u8], best: &mut [u8])
     }
 }
 
-/// Writes the greatest high key of the records of a leaf. `next` is room for a key.
+/// Writes the greatest high key of the records of a leaf, which isn't read where its kind has none. `next` is room for a key.
 pub fn put_greatest<R: Record>(block: &Block, next: &mut [u8], out: &mut [u8])
     requires tested { HoldsRecords R.form block.now }
     requires some { 0 < count_in block.now }
@@ -64,6 +64,9 @@ pub fn put_greatest<R: Record>(block: &Block, next: &mut [u8], out: &mut [u8])
     requires room { length out.old ≡ R.form.high }
     ensures { out.new ≡ greatest_key (map R.form.high_of (records_in R.form block.now)) }
 {
+    if R::HIGH == 0 {
+        return;
+    }
     let mut k = count_of(block) - 1;
     tested_record::<R>(block, k).put_high(out);
     while k > 0 {

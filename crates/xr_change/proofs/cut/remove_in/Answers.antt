@@ -1,11 +1,13 @@
 use Rattle.std.proofs.Common.{◌∙◌, Bool, List, [], ◌∷◌, length, ap, arith}
 use Rattle.xr_blocks.specs.Marks.{marked}
 use Rattle.xr_change.proofs.Written.{unmarked_few}
-use Rattle.xr_change.proofs.WholeChanges.{cut_frame, cut_rows, cut_rules, cut_some, root_two}
+use Rattle.xr_change.proofs.WholeChanges.{cut_frame, cut_rows, cut_rules, cut_some, root_least, two_if}
 use Rattle.xr_change.proofs.cut.remove_in.Goals as goal
 
 pub remove_below-requires-clause-two : goal.remove_below-requires-clause-two
-remove_below-requires-clause-two g c = root_two g.R.Record.form c.args.draft.now c.args.root.level c.args.root.number c.requires.tree
+remove_below-requires-clause-two g c =
+    two_if g.R.Record.form c.args.draft.now c.args.root.level c.args.root.number
+    (root_least g.R.Record.form c.args.draft.now c.args.root.level c.args.root.number c.requires.tree)
 
 pub lower-requires-clause-rows : goal.lower-requires-clause-rows
 lower-requires-clause-rows g c =
@@ -13,7 +15,8 @@ lower-requires-clause-rows g c =
 
 pub lower-requires-clause-some : goal.lower-requires-clause-some
 lower-requires-clause-some g c =
-    cut_some g.R.Record.form c.args.draft.now c.remove_below.new.draft c.args.root.level c.args.root.number c.requires.tree _ c.remove_below.ensures.changes
+    cut_some g.R.Record.form c.args.draft.now c.args.root.level c.args.root.number c.requires.tree
+    c.remove_below.new.draft c.args.r.now c.requires.held c.remove_below.ensures.changes
 
 pub lower-requires-clause-rules : goal.lower-requires-clause-rules
 lower-requires-clause-rules g c =

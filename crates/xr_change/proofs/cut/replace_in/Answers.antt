@@ -1,11 +1,13 @@
 use Rattle.std.proofs.Common.{[], ◌∷◌, arith}
 use Rattle.xr_change.proofs.Written.{same_count, unmarked_few}
 use Rattle.xr_change.proofs.SetLemmas.{replaced_valid}
-use Rattle.xr_change.proofs.WholeChanges.{root_some, tree_after}
+use Rattle.xr_change.proofs.WholeChanges.{root_least, some_if, tree_after}
 use Rattle.xr_change.proofs.cut.replace_in.Goals as goal
 
 pub replace_below-requires-clause-some : goal.replace_below-requires-clause-some
-replace_below-requires-clause-some g c = root_some g.R.Record.form c.args.draft.now c.args.root.level c.args.root.number c.requires.tree
+replace_below-requires-clause-some g c =
+    some_if g.R.Record.form c.args.draft.now c.args.root.level c.args.root.number
+    (omega (arith, root_least g.R.Record.form c.args.draft.now c.args.root.level c.args.root.number c.requires.tree))
 
 pub replace_below-requires-clause-valid : goal.replace_below-requires-clause-valid
 replace_below-requires-clause-valid g c =

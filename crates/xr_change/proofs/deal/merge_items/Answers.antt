@@ -1,17 +1,13 @@
-use Rattle.std.proofs.Common.{◌+◌, Option, ◌∙◌, subst, arith}
+use Rattle.std.proofs.Common.{Option, ◌∙◌, subst, arith}
 use Rattle.std.specs.Option.{option_to_list}
-use Rattle.xr_blocks.specs.Overlay.{block_at}
-use Rattle.xr_blocks.specs.Tree.{site_of}
 use Rattle.xr_change.proofs.Dealing.{copy_count, copy_sealed, merge_dealt}
-use Rattle.xr_change.proofs.ItemFacts.{gathers_as}
 use Rattle.xr_change.specs.Writes.{Writes}
 use Rattle.xr_change.proofs.deal.merge_items.Goals as goal
 
 pub gather-requires : goal.gather-requires
 gather-requires g c =
-    let known = c.is_known.ensures in
-    let first = copy_count g.R.Record.form g.met.R.Record.is_form c.args.draft.now known c.args.level c.args.c _ c.copy_of-first.ensures c.requires.placed.0 in
-    let second = copy_count g.R.Record.form g.met.R.Record.is_form c.args.draft.now known c.args.level c.args.d _ c.copy_of-second.ensures c.requires.placed.1 in
+    let first = copy_count g.R.Record.form g.met.R.Record.is_form c.args.draft.now c.is_known.ensures c.args.level c.args.c _ c.copy_of-first.ensures c.requires.placed.0 in
+    let second = copy_count g.R.Record.form g.met.R.Record.is_form c.args.draft.now c.is_known.ensures c.args.level c.args.d _ c.copy_of-second.ensures c.requires.placed.1 in
     record {
       here = c.requires.placed.0.below;
       level = c.requires.level;
@@ -37,6 +33,4 @@ returns g c =
     (c.count_of.ensures.count ∙ first.count) (c.count_of-2.ensures.count ∙ second.count)
     c.requires.beside c.gather.new.draft c.relink.new.draft c.gather.ensures.writes
     (subst (λ (next : Option _). Writes c.gather.new.draft c.relink.new.draft (option_to_list next)) right c.relink.ensures.writes)
-    (gathers_as form level c.args.c (site_of a) _ (block_at a c.args.c) _ (block_at a c.args.d) 0 (c.count_of.result + c.count_of-2.result)
-    c.neighbours-left.result.0 _ c.neighbours-right.result.1 _ _ first_sealed second_sealed left right c.gather.ensures.block)
-    (λ q old is. c.relink.ensures.relinked q old (right ∙ is))
+    (rw (first_sealed, second_sealed, left, right) at c.gather.ensures.block) (λ q old is. c.relink.ensures.relinked q old (right ∙ is))

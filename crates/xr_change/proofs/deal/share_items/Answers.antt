@@ -1,15 +1,11 @@
-use Rattle.std.proofs.Common.{◌+◌, ◌∙◌, arith}
-use Rattle.xr_blocks.specs.Overlay.{block_at}
-use Rattle.xr_blocks.specs.Tree.{site_of}
+use Rattle.std.proofs.Common.{◌∙◌, arith}
 use Rattle.xr_change.proofs.Dealing.{copy_count, copy_sealed, share_dealt}
-use Rattle.xr_change.proofs.ItemFacts.{gathers_as}
 use Rattle.xr_change.proofs.deal.share_items.Goals as goal
 
 pub gather-requires : goal.gather-requires
 gather-requires g c =
-    let known = c.is_known.ensures in
-    let first = copy_count g.R.Record.form g.met.R.Record.is_form c.args.draft.now known c.args.level c.args.c _ c.copy_of-first.ensures c.requires.placed.0 in
-    let second = copy_count g.R.Record.form g.met.R.Record.is_form c.args.draft.now known c.args.level c.args.d _ c.copy_of-second.ensures c.requires.placed.1 in
+    let first = copy_count g.R.Record.form g.met.R.Record.is_form c.args.draft.now c.is_known.ensures c.args.level c.args.c _ c.copy_of-first.ensures c.requires.placed.0 in
+    let second = copy_count g.R.Record.form g.met.R.Record.is_form c.args.draft.now c.is_known.ensures c.args.level c.args.d _ c.copy_of-second.ensures c.requires.placed.1 in
     record {
       here = c.requires.placed.0.below;
       level = c.requires.level;
@@ -21,9 +17,8 @@ gather-requires g c =
 
 pub gather-requires-2 : goal.gather-requires-2
 gather-requires-2 g c =
-    let known = c.is_known.ensures in
-    let first = copy_count g.R.Record.form g.met.R.Record.is_form c.args.draft.now known c.args.level c.args.c _ c.copy_of-first.ensures c.requires.placed.0 in
-    let second = copy_count g.R.Record.form g.met.R.Record.is_form c.args.draft.now known c.args.level c.args.d _ c.copy_of-second.ensures c.requires.placed.1 in
+    let first = copy_count g.R.Record.form g.met.R.Record.is_form c.args.draft.now c.is_known.ensures c.args.level c.args.c _ c.copy_of-first.ensures c.requires.placed.0 in
+    let second = copy_count g.R.Record.form g.met.R.Record.is_form c.args.draft.now c.is_known.ensures c.args.level c.args.d _ c.copy_of-second.ensures c.requires.placed.1 in
     let low = c.count_of.ensures.count ∙ first.0 in
     let high = c.count_of-2.ensures.count ∙ second.0 in
     record {
@@ -50,9 +45,6 @@ returns g c =
     let dealt = share_dealt form g.met.R.Record.is_form a known level c.args.c c.args.d c.requires.placed.0 c.requires.placed.1 c.count_of.result c.count_of-2.result
     (c.count_of.ensures.count ∙ first.count) (c.count_of-2.ensures.count ∙ second.count) c.requires.apart c.requires.beside c.args.count
     c.gather.new.draft c.gather-2.new.draft c.gather.ensures.writes c.gather-2.ensures.writes c.requires.low.0 c.requires.high
-    (gathers_as form level c.args.c (site_of a) _ (block_at a c.args.c) _ (block_at a c.args.d) 0 c.args.count low.result.0 _ low.result.1 _ _ first_sealed second_sealed
-    (low.ensures.left ∙ first.left) (low.ensures.right ∙ first.right) c.gather.ensures.block)
-    (gathers_as form level c.args.d (site_of c.gather.new.draft) _ (block_at a c.args.c) _ (block_at a c.args.d) c.args.count (c.count_of.result + c.count_of-2.result)
-    high.result.0 _ high.result.1 _ _ first_sealed second_sealed
-    (high.ensures.left ∙ second.left) (high.ensures.right ∙ second.right) c.gather-2.ensures.block) in
+    (rw (first_sealed, second_sealed, low.ensures.left ∙ first.left, low.ensures.right ∙ first.right) at c.gather.ensures.block)
+    (rw (first_sealed, second_sealed, high.ensures.left ∙ second.left, high.ensures.right ∙ second.right) at c.gather-2.ensures.block) in
     record { shares = dealt.0; count = dealt.1 }

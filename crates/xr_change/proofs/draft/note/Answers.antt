@@ -1,6 +1,6 @@
-use Rattle.std.proofs.Common.{◌≡◌, ◌<◌, List, ℕ, true, ap, sym, subst, ◌∙◌, arith}
+use Rattle.std.proofs.Common.{refl, ◌≡◌, ◌<◌, List, ℕ, true, ap, sym, subst, ◌∙◌, arith}
 use Rattle.xr_blocks.specs.Overlay.{Blocks, block_at, pool_size, with_block}
-use Rattle.xr_change.proofs.Sealing.{block_reads, more_lent, same_lent}
+use Rattle.xr_change.proofs.Sealing.{block_reads, edited_more, edited_others, lent}
 use Rattle.xr_change.specs.Draft.{ReadsAs, all_sealed, is_edited}
 use Rattle.xr_edit.specs.Edit.{sealed}
 use Rattle.xr_change.proofs.draft.note.Goals as goal
@@ -13,7 +13,7 @@ pub returns-then-contains-clause-lent : goal.returns-then-contains-clause-lent
 returns-then-contains-clause-lent g c = λ w.
     let noted : is_edited c.args.edited.now.items c.args.n ≡ true =
     ap (λ (es : List ℕ). is_edited es c.args.n) (sym c.deref.ensures.0) ∙ sym c.contains.ensures.value ∙ c.if-contains.true in
-    same_lent g.R.Record.form c.args.over.now c.args.edited.now.items c.args.n w c.has_blocks.ensures.image c.requires.within noted
+    lent g.R.Record.form c.args.over.now c.args.edited.now.items c.args.n w c.requires.within c.args.edited.now.items (λ m apart. refl) noted
 
 pub returns-clause-reads : goal.returns-clause-reads
 returns-clause-reads g c =
@@ -30,5 +30,6 @@ returns-clause-lent g c = λ w.
     let b = c.make_room.new.over in
     let n = c.args.n in
     ap (λ (es : List ℕ). all_sealed form es (with_block b n w)) c.push.ensures.items
-    ∙ more_lent form b c.make_room.new.edited.items n w c.has_blocks-2.ensures.image (omega (arith, c.make_room.ensures.pool, c.requires.within))
+    ∙ lent form b c.make_room.new.edited.items n w (omega (arith, c.make_room.ensures.pool, c.requires.within)) _ (edited_others c.make_room.new.edited.items n)
+    (edited_more c.make_room.new.edited.items n)
     ∙ ap (λ (z : Blocks). with_block z n (sealed form w)) c.make_room.ensures.same

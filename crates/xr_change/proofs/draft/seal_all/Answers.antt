@@ -16,8 +16,8 @@ loop-n-preserved g c =
     let edited : AreEdited b (es ++ n ∷ []) = subst (AreEdited b) split c.loop-n.invariant.0 in
     let within : n < pool_size b = edited_has (λ (m : ℕ). m < pool_size b) (es ++ n ∷ []) edited.within n (edited_more es n) in
     let is : c.seal.new.block ≡ sealed form (block_at b n) = c.seal.ensures ∙ ap (sealed form) c.block_mut.ensures.value in (
-      one_less form b es n c.seal.new.block c.has_blocks.ensures.image within edited,
-      sealed_less form b es n c.seal.new.block c.has_blocks.ensures.image within edited (c.has_blocks.ensures.blocks n within).long is
+      one_less form b es n c.seal.new.block within edited,
+      sealed_less form b es n c.seal.new.block within edited (c.has_blocks.ensures.blocks n within).long is
           ∙ ap (λ (ms : List ℕ). all_sealed form ms b) (sym split) ∙ c.loop-n.invariant.1,
     )
 

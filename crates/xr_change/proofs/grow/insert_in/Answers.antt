@@ -4,13 +4,15 @@ use Rattle.xr_blocks.specs.Tree.{AreRecords}
 use Rattle.xr_change.proofs.FullWays.{full_if, room_if}
 use Rattle.xr_change.proofs.SetLemmas.{inserted_has}
 use Rattle.xr_change.proofs.Written.{unmarked_few}
-use Rattle.xr_change.proofs.WholeChanges.{changed_frame, changed_tree, root_few, root_here, root_some, tree_after}
+use Rattle.xr_change.proofs.WholeChanges.{changed_frame, changed_tree, root_few, root_here, root_least, some_if, tree_after}
 use Rattle.xr_change.specs.Sets.{inserted}
 use Rattle.xr_change.specs.Writes.{unchanged}
 use Rattle.xr_change.proofs.grow.insert_in.Goals as goal
 
 pub insert_below-requires-clause-some : goal.insert_below-requires-clause-some
-insert_below-requires-clause-some g c = root_some g.R.Record.form c.args.draft.now c.args.root.level c.args.root.number c.requires.tree
+insert_below-requires-clause-some g c =
+    some_if g.R.Record.form c.args.draft.now c.args.root.level c.args.root.number
+    (omega (arith, root_least g.R.Record.form c.args.draft.now c.args.root.level c.args.root.number c.requires.tree))
 
 pub insert_below-requires-clause-room : goal.insert_below-requires-clause-room
 insert_below-requires-clause-room g c =

@@ -1,5 +1,4 @@
-use Rattle.std.proofs.Common.{◌∙◌, [], ◌∷◌, sym, ap}
-use Rattle.std.proofs.lemmas.List.{append-nil}
+use Rattle.std.proofs.Common.{◌∙◌, [], ◌∷◌, sym, ap, append-nil}
 use Rattle.byteorder.specs.Endian.{big_bytes}
 use Rattle.xr_blocks.specs.Form.{pointer_size}
 use Rattle.xr_blocks.specs.TreeBlock.{Entry}

@@ -1,14 +1,9 @@
-use Rattle.std.proofs.Common.{◌+◌, ℕ, None, [], ◌∷◌, sym, subst}
-use Rattle.xr_blocks.specs.Overlay.{Blocks, block_at}
+use Rattle.std.proofs.Common.{[], ◌∷◌, sym, subst}
+use Rattle.xr_blocks.specs.Overlay.{Blocks}
 use Rattle.xr_blocks.specs.Rows.{half}
-use Rattle.xr_blocks.specs.Tree.{site_of}
 use Rattle.xr_change.proofs.InTree.{one_more}
 use Rattle.xr_change.proofs.WholeChanges.{raised, rows_taken}
 use Rattle.xr_change.specs.Alters.{AreRowsIn}
-use Rattle.xr_change.specs.Lowers.{Raises}
-use Rattle.xr_change.specs.Regroups.{entry_for}
-use Rattle.xr_change.specs.Writes.{Writes}
-use Rattle.xr_edit.specs.Edit.{IsNodeOf}
 use Rattle.xr_change.proofs.grow.raise.Goals as goal
 
 pub write_above-requires-clause-rows : goal.write_above-requires-clause-rows
@@ -28,8 +23,5 @@ returns-clause-raises g c =
     let p = c.take_spare-number.result in
     let spot = c.take_spare-number.ensures in
     let b = c.write_above.new.draft in
-    subst (λ (l : ℕ). Raises form a b root level p l c.args.r.now) (sym (one_more level))
-    (raised form g.met.R.Record.is_form a level root c.requires.tree c.requires.full p spot.was_free c.is_known.ensures.all spot.within b
-    (subst (λ (t : Blocks). Writes t b (p ∷ [])) spot.taken c.write_above.ensures.writes)
-    (subst (λ (t : Blocks). IsNodeOf form (site_of t) (record { number = p; level = level + 1; left = None; right = None }) (entry_for form t level root ∷ []) (block_at b p)) spot.taken
-    c.write_above.ensures.node) c.args.r.now)
+    rw (one_more level) (raised form g.met.R.Record.is_form a level root c.requires.tree c.requires.full p spot.was_free c.is_known.ensures.all spot.within b
+    (rw spot.taken at c.write_above.ensures.writes) (rw spot.taken at c.write_above.ensures.node) c.args.r.now)

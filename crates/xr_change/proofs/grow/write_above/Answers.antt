@@ -1,5 +1,6 @@
-use Rattle.std.proofs.Common.{◌≡◌, ◌+◌, ◌^◌, ◌∙◌, ◌<◌, ℕ, List, [], ◌∷◌, None, refl, sym, subst, arith}
-use Rattle.xr_blocks.specs.Form.{pointer_size}
+use Rattle.std.proofs.Common.{◌≡◌, ◌+◌, ◌^◌, ◌∙◌, ◌<◌, ℕ, [], ◌∷◌, None, refl, arith}
+use Rattle.xr_blocks.specs.Form.{Form, IsForm, pointer_size}
+use Rattle.xr_blocks.specs.Overlay.{Blocks}
 use Rattle.xr_blocks.specs.OverlayLaws.{block_written}
 use Rattle.xr_blocks.specs.Rows.{half}
 use Rattle.xr_blocks.specs.Tree.{site_of}
@@ -10,18 +11,19 @@ use Rattle.xr_change.proofs.WholeChanges.{pointer_fits}
 use Rattle.xr_change.proofs.Stepping.{row_below, row_keyed}
 use Rattle.xr_change.proofs.ParentFacts.{level_small}
 use Rattle.xr_change.proofs.Written.{block_writes}
+use Rattle.xr_change.specs.Alters.{AreKnown, AreRowsIn}
 use Rattle.xr_change.specs.Regroups.{entry_for}
-use Rattle.xr_edit.specs.Edit.{IsNodeOf, sealed}
+use Rattle.xr_edit.specs.Edit.{sealed}
 use Rattle.xr_lookup.specs.UnderLaws.{half_some}
 use Rattle.xr_change.proofs.grow.write_above.Goals as goal
 
+-- few levels stand below a root
+few_levels : {X : Type 0} (form : Form X) (laws : IsForm form) (b : Blocks) → AreKnown b → (level n : ℕ) → AreRowsIn form b (half form level) level (n ∷ []) → level + 1 < 2 ^ 16
+few_levels form laws b known level n rows = level_small form laws b known (half form level) level (n ∷ []) (half_some form laws level) rows (omega arith)
+
 pub overflow_add-root : goal.overflow_add-root
 overflow_add-root g c =
-    let form = g.R.Record.form in
-    let laws = g.met.R.Record.is_form in
-    let known = c.is_known.ensures in
-    let small = level_small form laws c.args.draft.now known (half form c.args.root.level) c.args.root.level (c.args.root.number ∷ [])
-    (half_some form laws c.args.root.level) c.requires.rows (omega arith) in
+    let small = few_levels g.R.Record.form g.met.R.Record.is_form c.args.draft.now c.is_known.ensures c.args.root.level c.args.root.number c.requires.rows in
     search (arith, small)
 
 pub block-requires : goal.block-requires
@@ -30,17 +32,12 @@ block-requires g c = row_below g.R.Record.form c.args.draft.now (half g.R.Record
 pub put_key-requires-clause-keyed : goal.put_key-requires-clause-keyed
 put_key-requires-clause-keyed g c =
     let form = g.R.Record.form in
-    let known = c.is_known.ensures in
     read_keyed form c.block.result.now _ c.block.ensures c.args.root.level
-    (row_keyed form g.met.R.Record.is_form c.args.draft.now known c.args.root.level [] c.args.root.number [] c.requires.rows)
+    (row_keyed form g.met.R.Record.is_form c.args.draft.now c.is_known.ensures c.args.root.level [] c.args.root.number [] c.requires.rows)
 
 pub put_single-requires-clause-level : goal.put_single-requires-clause-level
 put_single-requires-clause-level g c =
-    let form = g.R.Record.form in
-    let laws = g.met.R.Record.is_form in
-    let known = c.is_known.ensures in
-    let small = level_small form laws c.args.draft.now known (half form c.args.root.level) c.args.root.level (c.args.root.number ∷ [])
-    (half_some form laws c.args.root.level) c.requires.rows (omega arith) in
+    let small = few_levels g.R.Record.form g.met.R.Record.is_form c.args.draft.now c.is_known.ensures c.args.root.level c.args.root.number c.requires.rows in
     omega (arith, small, c.header-fields.ensures.level)
 
 pub returns-clause-writes : goal.returns-clause-writes
@@ -57,13 +54,7 @@ returns-clause-node g c =
     let number : c.args.root.number < 256 ^ pointer_size form =
     pointer_fits form b c.is_known.ensures c.args.root.number
     (row_below form b (half form c.args.root.level) c.args.root.level [] c.args.root.number [] c.requires.rows) in
-    subst (IsNodeOf form (site_of b) place (entry ∷ [])) (sym (block_written b c.args.p (sealed form c.put_single.new.out) c.requires.here))
-    (subst (λ (k : List ℕ). IsNodeOf form (site_of b) place (record { key = k; child = c.args.root.number } ∷ []) (sealed form c.put_single.new.out)) key
-    (c.put_single.ensures (site_of b) place c.header-fields.ensures number))
+    rw (block_written b c.args.p (sealed form c.put_single.new.out) c.requires.here, ← key) (c.put_single.ensures (site_of b) place c.header-fields.ensures number)
 
 pub returns-clause-level : goal.returns-clause-level
-returns-clause-level g c =
-    let form = g.R.Record.form in
-    let laws = g.met.R.Record.is_form in
-    let known = c.is_known.ensures in
-    level_small form laws c.args.draft.now known (half form c.args.root.level) c.args.root.level (c.args.root.number ∷ []) (half_some form laws c.args.root.level) c.requires.rows (omega arith)
+returns-clause-level g c = few_levels g.R.Record.form g.met.R.Record.is_form c.args.draft.now c.is_known.ensures c.args.root.level c.args.root.number c.requires.rows

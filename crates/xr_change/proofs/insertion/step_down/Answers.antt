@@ -1,7 +1,7 @@
 use Rattle.std.proofs.Common.{ℕ, sym, subst, arith}
 use Rattle.xr_change.proofs.InTree.{one_more}
-use Rattle.xr_change.proofs.Stepping.{some_if}
-use Rattle.xr_change.specs.Ways.{HasSome, IsInTree}
+use Rattle.xr_change.proofs.WholeChanges.{root_less, some_if}
+use Rattle.xr_change.specs.Ways.{IsInTree}
 use Rattle.xr_change.proofs.insertion.step_down.Goals as goal
 
 pub child_block-child-requires-clause-here : goal.child_block-child-requires-clause-here
@@ -10,6 +10,5 @@ child_block-child-requires-clause-here g c =
 
 pub returns-clause-some : goal.returns-clause-some
 returns-clause-some g c =
-    let form = g.R.Record.form in
-    subst (HasSome form c.roomy_way-place.new.draft c.args.level) (sym c.child_block-child.ensures.kth.is)
-    (some_if form g.met.R.Record.is_form c.roomy_way-place.new.draft c.args.level _ (omega (arith, c.roomy_way-place.ensures.way.least)))
+    rw c.child_block-child.ensures.kth.is (some_if g.R.Record.form c.roomy_way-place.new.draft c.args.level _
+    (omega (arith, root_less g.R.Record.form g.met.R.Record.is_form c.args.level, c.roomy_way-place.ensures.way.least)))

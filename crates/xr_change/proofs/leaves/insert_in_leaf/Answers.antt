@@ -1,6 +1,5 @@
-use Rattle.std.proofs.Common.{arith}
+use Rattle.std.proofs.Common.{arith, insert}
 use Rattle.std.proofs.lemmas.List.Edits.{length-insert}
-use Rattle.std.specs.List.{insert}
 use Rattle.xr_blocks.specs.Overlay.{block_at}
 use Rattle.xr_blocks.specs.TreeBlock.{Place, Site, records_in}
 use Rattle.xr_change.proofs.InTree.{in_pool, leaf_changes, leaf_found, leaf_sought, leaf_free, leaf_long, leaf_counts}

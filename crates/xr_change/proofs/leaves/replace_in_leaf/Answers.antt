@@ -1,6 +1,4 @@
-use Rattle.std.proofs.Common.{refl, arith}
-use Rattle.std.proofs.lemmas.List.{length-set}
-use Rattle.std.specs.List.{slice_set}
+use Rattle.std.proofs.Common.{refl, arith, length-set, slice_set}
 use Rattle.xr_blocks.specs.Overlay.{block_at}
 use Rattle.xr_blocks.specs.TreeBlock.{records_in}
 use Rattle.xr_change.proofs.InTree.{in_pool, leaf_changes, leaf_found, leaf_sought, leaf_counts, leaf_stands}

@@ -1,10 +1,9 @@
-use Rattle.std.proofs.Common.{◌≡◌, ◌∙◌, ℕ, List, [], ◌∷◌, refl, sym, subst}
+use Rattle.std.proofs.Common.{◌≡◌, ◌∙◌, List, [], ◌∷◌, refl, sym, subst}
 use Rattle.xr_blocks.specs.Overlay.{block_at}
-use Rattle.xr_blocks.specs.OverlayLaws.{block_written}
 use Rattle.xr_blocks.specs.Rows.{half, key_held}
 use Rattle.xr_blocks.specs.Tree.{tree_held}
 use Rattle.xr_blocks.specs.TreeBlock.{Entry}
-use Rattle.xr_change.proofs.Editing.{key_read, node_read}
+use Rattle.xr_change.proofs.Editing.{edited_node, key_read}
 use Rattle.xr_change.proofs.Reading.{read_key, read_keyed}
 use Rattle.xr_change.proofs.Stepping.{keyed_again, row_below, row_keyed}
 use Rattle.xr_change.proofs.Written.{block_writes}
@@ -30,15 +29,13 @@ returns-clause-marks g c =
     writes.marks
 
 pub returns-clause-node : goal.returns-clause-node
-returns-clause-node g c = λ site place entries whole.
+returns-clause-node g c =
     let form = g.R.Record.form in
     let b = c.args.draft.now in
     let key : c.put_key.new.out ≡ key_held form (tree_held form b) c.args.level c.args.c =
     c.put_key.ensures c.args.c (λ m. c.block.result.now) refl ∙ key_read form b c.block.result.now c.args.level c.args.c c.block.ensures in
-    subst (IsNodeOf form site place (with_key c.args.k (key_held form (tree_held form b) c.args.level c.args.c) entries))
-    (sym (block_written b c.args.n (sealed form c.set_key.new.block) c.requires.here))
-    (subst (λ (bytes : List ℕ). IsNodeOf form site place (with_key c.args.k bytes entries) (sealed form c.set_key.new.block)) key
-    (c.set_key.ensures site place entries (node_read form c.block_mut.result.now _ c.block_mut.ensures.value site place entries whole)))
+    edited_node form b c.args.n _ (with_key c.args.k (key_held form (tree_held form b) c.args.level c.args.c)) c.requires.here c.block_mut.ensures.value
+    (rw key at c.set_key.ensures)
 
 pub returns-then-is_same-clause-node : goal.returns-then-is_same-clause-node
 returns-then-is_same-clause-node g c = λ site place entries whole.

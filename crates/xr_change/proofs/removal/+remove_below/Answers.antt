@@ -1,11 +1,10 @@
-use Rattle.std.proofs.Common.{◌≡◌, ◌-◌, ℕ, suc, sym, subst, arith}
+use Rattle.std.proofs.Common.{◌≡◌, ◌-◌, suc, arith}
 use Rattle.xr_change.proofs.Stepping.{removes_above, may_mend}
-use Rattle.xr_change.specs.Changes.{Removes}
 use Rattle.xr_change.specs.Sets.{removed}
 use Rattle.xr_change.proofs.removal.+remove_below.Goals as goal
 
 pub returns-then-level-eq0 : goal.returns-then-level-eq0
-returns-then-level-eq0 g t c = subst (λ (l : ℕ). Removes g.R.Record.form c.args.draft.now c.remove_from_leaf.new.draft l c.args.n c.args.r.now) (sym c.if-level-eq0.true) c.remove_from_leaf.ensures
+returns-then-level-eq0 g t c = rw c.if-level-eq0.true c.remove_from_leaf.ensures
 
 pub mend_key-requires : goal.mend_key-requires
 mend_key-requires g t c =
@@ -18,8 +17,7 @@ pub returns : goal.returns
 returns g t c =
     let form = g.R.Record.form in
     let up : c.args.level ≡ suc (c.args.level - 1) = omega (arith, c.if-level-eq0.false) in
-    subst (λ (l : ℕ). Removes form c.args.draft.now c.mend_key.new.draft l c.args.n c.args.r.now) (sym up)
-    (removes_above form g.met.R.Record.is_form c.args.draft.now c.step_down-step.new.draft c.remove_below.new.draft
+    rw up (removes_above form g.met.R.Record.is_form c.args.draft.now c.step_down-step.new.draft c.remove_below.new.draft
     (c.args.level - 1) c.args.n c.step_down-step.result.place c.step_down-step.result.child
     c.step_down-step.ensures.child c.is_known.ensures c.mend_key.new.draft c.mend_key.ensures.only c.mend_key.ensures.free c.mend_key.ensures.marks c.mend_key.ensures.node
     c.args.r.now c.step_down-step.ensures.way c.remove_below.ensures)

@@ -1,7 +1,7 @@
-use Rattle.std.proofs.Common.{ℕ, sym, subst}
+use Rattle.std.proofs.Common.{ℕ, sym, subst, arith}
 use Rattle.xr_change.proofs.InTree.{one_more}
-use Rattle.xr_change.proofs.Stepping.{two_if}
-use Rattle.xr_change.specs.Ways.{HasTwo, IsInTree}
+use Rattle.xr_change.proofs.WholeChanges.{root_less, two_if}
+use Rattle.xr_change.specs.Ways.{IsInTree}
 use Rattle.xr_change.proofs.removal.step_down.Goals as goal
 
 pub child_block-child-requires-clause-here : goal.child_block-child-requires-clause-here
@@ -10,6 +10,5 @@ child_block-child-requires-clause-here g c =
 
 pub returns-clause-two : goal.returns-clause-two
 returns-clause-two g c =
-    let form = g.R.Record.form in
-    subst (HasTwo form c.spare_way-place.new.draft c.args.level) (sym c.child_block-child.ensures.kth.is)
-    (two_if form g.met.R.Record.is_form c.spare_way-place.new.draft c.args.level _ c.spare_way-place.ensures.way.least)
+    rw c.child_block-child.ensures.kth.is (two_if g.R.Record.form c.spare_way-place.new.draft c.args.level _
+    (omega (arith, root_less g.R.Record.form g.met.R.Record.is_form c.args.level, c.spare_way-place.ensures.way.least)))

@@ -1,11 +1,10 @@
-use Rattle.std.proofs.Common.{◌≡◌, ◌-◌, ℕ, suc, refl, sym, subst, arith}
+use Rattle.std.proofs.Common.{◌≡◌, ◌-◌, suc, refl, arith}
 use Rattle.xr_change.proofs.Stepping.{replaces_above, may_mend}
-use Rattle.xr_change.specs.Changes.{Replaces}
 use Rattle.xr_change.specs.Sets.{replaced}
 use Rattle.xr_change.proofs.replacement.+replace_below.Goals as goal
 
 pub returns-then-level-eq0 : goal.returns-then-level-eq0
-returns-then-level-eq0 g t c = subst (λ (l : ℕ). Replaces g.R.Record.form c.args.draft.now c.replace_in_leaf.new.draft l c.args.n c.args.old.now c.args.new.now) (sym c.if-level-eq0.true) c.replace_in_leaf.ensures
+returns-then-level-eq0 g t c = rw c.if-level-eq0.true c.replace_in_leaf.ensures
 
 pub mend_key-requires : goal.mend_key-requires
 mend_key-requires g t c =
@@ -17,7 +16,7 @@ pub returns : goal.returns
 returns g t c =
     let form = g.R.Record.form in
     let up : c.args.level ≡ suc (c.args.level - 1) = omega (arith, c.if-level-eq0.false) in
-    subst (λ (l : ℕ). Replaces form c.args.draft.now c.mend_key.new.draft l c.args.n c.args.old.now c.args.new.now) (sym up)
-    (replaces_above form g.met.R.Record.is_form c.args.draft.now c.args.draft.now c.replace_below.new.draft (c.args.level - 1) c.args.n c.step_down-step.result.place c.step_down-step.result.child
+    rw up (replaces_above form g.met.R.Record.is_form c.args.draft.now c.args.draft.now c.replace_below.new.draft
+    (c.args.level - 1) c.args.n c.step_down-step.result.place c.step_down-step.result.child
     c.step_down-step.ensures.child c.is_known.ensures c.mend_key.new.draft c.mend_key.ensures.only c.mend_key.ensures.free c.mend_key.ensures.marks c.mend_key.ensures.node
     c.args.old.now c.args.new.now (c.step_down-step.ensures.way c.args.new.now) refl c.replace_below.ensures)

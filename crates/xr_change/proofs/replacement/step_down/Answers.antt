@@ -1,9 +1,8 @@
-use Rattle.std.proofs.Common.{ℕ, [], ◌∷◌, sym, subst, arith}
-use Rattle.std.specs.List.{Contains}
+use Rattle.std.proofs.Common.{ℕ, [], ◌∷◌, sym, subst, arith, Contains}
 use Rattle.xr_blocks.specs.Tree.{records_of}
 use Rattle.xr_change.proofs.Descent.{child_least, held_on_way, replaced_there, way_here}
-use Rattle.xr_change.proofs.InTree.{node_in, one_more}
-use Rattle.xr_change.proofs.Stepping.{some_if}
+use Rattle.xr_change.proofs.InTree.{node_in}
+use Rattle.xr_change.proofs.WholeChanges.{root_less, some_if}
 use Rattle.xr_change.specs.Sets.{replaced}
 use Rattle.xr_change.specs.Ways.{HasSome}
 use Rattle.xr_change.proofs.replacement.step_down.Goals as goal
@@ -21,13 +20,12 @@ returns g c =
     let same = sym c.child_block-child.ensures.kth.is in
     let here = node_in form over level n c.requires.here in
     let least = child_least form over level n k here way.within in
-    let there = subst (λ (l : ℕ). Contains (records_of form over l (n ∷ [])) r) (one_more level) c.requires.held in
-    let found = held_on_way form laws over level n k here way.within r way there in
+    let found = held_on_way form laws over level n k here way.within r way c.requires.held in
     record {
       way = λ new. way_here form laws over level n k here way.within 0 (replaced form.order r new) (omega arith) (omega (arith, least))
           (replaced_there form laws over level n k here way.within r new found);
       child = c.child_block-child.ensures.kth.is;
       here = c.child_block-child.ensures.here;
-      some = subst (HasSome form over level) same (some_if form laws over level _ least);
+      some = subst (HasSome form over level) same (some_if form over level _ (omega (arith, root_less form laws level, least)));
       held = subst (λ (m : ℕ). Contains (records_of form over level (m ∷ [])) r) same found;
     }

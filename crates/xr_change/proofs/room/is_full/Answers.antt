@@ -1,6 +1,7 @@
-use Rattle.std.proofs.Common.{◌∙◌, sym}
-use Rattle.xr_change.proofs.FullWays.{full_leaf, full_node}
+use Rattle.std.proofs.Common.{◌∙◌, ap, sym}
+use Rattle.xr_change.proofs.FullWays.{full_read, most_of_node}
 use Rattle.xr_change.proofs.InTree.{in_pool}
+use Rattle.xr_change.specs.Ways.{item_most}
 use Rattle.xr_change.proofs.room.is_full.Goals as goal
 
 pub block-requires : goal.block-requires
@@ -8,10 +9,10 @@ block-requires g c = in_pool g.R.Record.form c.args.draft.now c.args.level c.arg
 
 pub returns-then-level-eq0 : goal.returns-then-level-eq0
 returns-then-level-eq0 g c =
-    full_leaf g.R.Record.form g.met.R.Record.is_form c.args.draft.now c.args.level c.args.n c.requires c.if-level-eq0.true c.count_of-count.result c.LEAF_MAX.result
-    c.block.result.now c.count_of-count.ensures.count c.block.ensures (g.met.R.Record.numbers.same_leaf_max ∙ sym c.LEAF_MAX.ensures)
+    full_read g.R.Record.form g.met.R.Record.is_form c.args.draft.now c.args.level c.args.n c.requires c.count_of-count.result c.LEAF_MAX.result c.count_of-count.ensures.count
+    c.block.ensures (c.LEAF_MAX.ensures ∙ sym g.met.R.Record.numbers.same_leaf_max ∙ ap (item_most g.R.Record.form) (sym c.if-level-eq0.true))
 
 pub returns-else-level-eq0 : goal.returns-else-level-eq0
 returns-else-level-eq0 g c =
-    full_node g.R.Record.form c.args.draft.now c.args.level c.args.n c.if-level-eq0.false c.count_of-count.result c.NODE_MAX.result
-    c.block.result.now c.count_of-count.ensures.count c.block.ensures (g.met.R.Record.numbers.same_node_max ∙ sym c.NODE_MAX.ensures)
+    full_read g.R.Record.form g.met.R.Record.is_form c.args.draft.now c.args.level c.args.n c.requires c.count_of-count.result c.NODE_MAX.result c.count_of-count.ensures.count
+    c.block.ensures (c.NODE_MAX.ensures ∙ sym g.met.R.Record.numbers.same_node_max ∙ most_of_node g.R.Record.form c.args.level c.if-level-eq0.false)

@@ -1,25 +1,22 @@
-use Rattle.std.proofs.Common.{ap, arith}
+use Rattle.std.proofs.Common.{rules, ap, arith}
 use Rattle.xr_change.proofs.Dealing.{placed_count}
 use Rattle.xr_change.proofs.InTree.{in_pool}
-use Rattle.xr_change.proofs.ParentFacts.{kth_placed}
+use Rattle.xr_change.proofs.ParentFacts.{kth_child}
 use Rattle.xr_change.specs.Ways.{item_count}
 use Rattle.xr_change.proofs.spare.child_count.Goals as goal
 
 pub block-requires : goal.block-requires
 block-requires g c = in_pool g.R.Record.form c.args.draft.now c.args.level c.child_block-child.result c.child_block-child.ensures.here
 
-pub returns-clause-count : goal.returns-clause-count
-returns-clause-count g c =
+pub returns : goal.returns
+returns g c =
     let form = g.R.Record.form in
     let over = c.args.draft.now in
     let kth = c.child_block-child.ensures.kth in
     let size = placed_count form g.met.R.Record.is_form over kth.known c.args.level c.child_block-child.result
-    (kth_placed form g.met.R.Record.is_form over c.args.level c.args.n c.args.k c.child_block-child.result kth) in
-    omega (arith, c.count_of.ensures.count, c.block.ensures.count, size.0, ap (item_count form over c.args.level) kth.is)
-
-pub returns-clause-most : goal.returns-clause-most
-returns-clause-most g c =
-    let kth = c.child_block-child.ensures.kth in
-    let size = placed_count g.R.Record.form g.met.R.Record.is_form c.args.draft.now kth.known c.args.level c.child_block-child.result
-    (kth_placed g.R.Record.form g.met.R.Record.is_form c.args.draft.now c.args.level c.args.n c.args.k c.child_block-child.result kth) in
-    omega (arith, c.count_of.ensures.count, c.block.ensures.count, size.0, size.1)
+    (kth_child form g.met.R.Record.is_form over c.args.level c.args.n c.args.k c.child_block-child.result kth).placed in
+    record {
+      count = omega (arith, c.count_of.ensures.count, c.block.ensures.count, size.0, ap (item_count form over c.args.level) kth.is);
+      most = omega (arith, c.count_of.ensures.count, c.block.ensures.count, size.0, size.1);
+      small = search rules;
+    }

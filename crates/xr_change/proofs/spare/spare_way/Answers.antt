@@ -1,8 +1,6 @@
-use Rattle.std.proofs.Common.{ℕ, [], ◌∷◌, subst, arith}
-use Rattle.std.specs.List.{Contains}
-use Rattle.xr_blocks.specs.Tree.{records_of}
+use Rattle.std.proofs.Common.{arith}
 use Rattle.xr_change.proofs.Descent.{held_on_way}
-use Rattle.xr_change.proofs.InTree.{node_in, node_items, one_more}
+use Rattle.xr_change.proofs.InTree.{node_in, node_items}
 use Rattle.xr_change.proofs.ItemFacts.{half_is}
 use Rattle.xr_change.proofs.Sparing.{spare_here}
 use Rattle.xr_change.proofs.spare.spare_way.Goals as goal
@@ -15,8 +13,8 @@ returns-then-child_count-most_of g c =
     let k = c.way_of-k.result in
     let way = c.way_of-k.ensures.way in
     let here = node_in form over c.args.level c.args.n c.requires.here in
-    let there = subst (λ (l : ℕ). Contains (records_of form over l (c.args.n ∷ [])) c.args.r.now) (one_more c.args.level) c.requires.held in
-    spare_here form laws over c.args.level c.args.n k c.args.r.now here way.within (held_on_way form laws over c.args.level c.args.n k here way.within c.args.r.now way there)
+    spare_here form laws over c.args.level c.args.n k c.args.r.now here way.within
+    (held_on_way form laws over c.args.level c.args.n k here way.within c.args.r.now way c.requires.held)
     (omega (arith, half_is form c.args.level, c.most_of.ensures, c.child_count.ensures.count, c.if-child_count-most_of.true))
 
 pub fill_child-requires-clause-two : goal.fill_child-requires-clause-two
@@ -31,6 +29,6 @@ returns g c =
     let form = g.R.Record.form in
     let over = c.args.draft.now in
     let way = c.way_of-k.ensures.way in
-    let there = subst (λ (l : ℕ). Contains (records_of form over l (c.args.n ∷ [])) c.args.r.now) (one_more c.args.level) c.requires.held in
     c.fill_child.ensures c.args.r.now
-    (held_on_way form g.met.R.Record.is_form over c.args.level c.args.n c.way_of-k.result (node_in form over c.args.level c.args.n c.requires.here) way.within c.args.r.now way there)
+    (held_on_way form g.met.R.Record.is_form over c.args.level c.args.n c.way_of-k.result (node_in form over c.args.level c.args.n c.requires.here)
+    way.within c.args.r.now way c.requires.held)

@@ -4,12 +4,11 @@ use Rattle.xr_blocks.specs.Form.{Form}
 use Rattle.xr_blocks.specs.Overlay.{Blocks, block_at}
 use Rattle.xr_blocks.specs.TreeBlock.{Entry, entries_in}
 use Rattle.xr_change.proofs.Descent.{child_in_tree}
-use Rattle.xr_change.proofs.InTree.{in_pool, is_under, node_in}
+use Rattle.xr_change.proofs.InTree.{in_pool, node_in, node_room}
 use Rattle.xr_change.proofs.ParentFacts.{kth_of}
 use Rattle.xr_change.proofs.Reading.{read_child}
 use Rattle.xr_change.specs.Draft.{ReadsAs}
 use Rattle.xr_change.specs.Ways.{IsInTree, child_of}
-use Rattle.xr_lookup.proofs.DescentLemmas.{node_few}
 use Rattle.xr_node.specs.Node.{child_in}
 use Rattle.xr_node.specs.NodeLaws.{entry_read, length-entries}
 use Rattle.xr_change.proofs.way.child_block.Goals as goal
@@ -33,10 +32,8 @@ block-requires g c = in_pool g.R.Record.form c.args.draft.now (c.args.level + 1)
 
 pub child_at-requires : goal.child_at-requires
 child_at-requires g c =
-    let form = g.R.Record.form in
-    let few = node_few form g.met.R.Record.is_form c.args.draft.now (c.args.level + 1) c.args.level c.args.n (omega arith)
-    (is_under form c.args.draft.now (c.args.level + 1) c.args.n c.requires.here) in
-    omega (arith, few, g.met.R.Record.numbers.same_node_max, c.requires.within, length-entries form (block_at c.args.draft.now c.args.n))
+    let few = node_room g.R.Record.form g.met.R.Record.is_form c.args.draft.now c.args.level c.args.n c.requires.here in
+    omega (arith, few, g.met.R.Record.numbers.same_node_max, c.requires.within, length-entries g.R.Record.form (block_at c.args.draft.now c.args.n))
 
 pub overflow_cast-result : goal.overflow_cast-result
 overflow_cast-result g c =

@@ -27,22 +27,15 @@ child_place-requires-clause-parted g c =
     (node_parted form g.met.R.Record.is_form over (c.args.level + 1) c.args.level c.args.n (omega arith)
     (is_under form over (c.args.level + 1) c.args.n c.requires.here) (Behind c.args.r.now))
 
-pub returns-clause-way : goal.returns-clause-way
-returns-clause-way g c =
-    let form = g.R.Record.form in
-    let over = c.args.draft.now in
-    let here = node_in form over c.args.level c.args.n c.requires.here in
-    let place = subst (λ (es : List Entry). IsPlaceOf (entry_is_before form (Behind c.args.r.now)) es c.child_place.result)
-    (read_entries form c.block.result.now (block_at over c.args.n) c.block.ensures) c.child_place.ensures in
-    way_at form g.met.R.Record.is_form over c.args.level c.args.n here c.args.r.now c.child_place.result c.saturating_sub.result
-    place c.saturating_sub.ensures (omega (arith, c.requires.some, node_items form over c.args.level c.args.n))
-
-pub returns-clause-place : goal.returns-clause-place
-returns-clause-place g c =
+pub returns : goal.returns
+returns g c =
     let form = g.R.Record.form in
     let over = c.args.draft.now in
     let test = entry_is_before form (Behind c.args.r.now) in
-    let read = subst (λ (es : List Entry). IsPlaceOf test es c.child_place.result)
+    let place = subst (λ (es : List Entry). IsPlaceOf test es c.child_place.result)
     (read_entries form c.block.result.now (block_at over c.args.n) c.block.ensures) c.child_place.ensures in
-    let place = passing_is test (entries_in form (block_at over c.args.n)) c.child_place.result read in
-    omega (arith, place, c.saturating_sub.ensures)
+    record {
+      way = way_at form g.met.R.Record.is_form over c.args.level c.args.n (node_in form over c.args.level c.args.n c.requires.here) c.args.r.now c.child_place.result
+          c.saturating_sub.result place c.saturating_sub.ensures (omega (arith, c.requires.some, node_items form over c.args.level c.args.n));
+      place = omega (arith, passing_is test (entries_in form (block_at over c.args.n)) c.child_place.result place, c.saturating_sub.ensures);
+    }

@@ -1,8 +1,15 @@
-use Rattle.std.proofs.Common.{◌∙◌, ◌-◌, ◌+◌, ◌≡◌, ap, arith, length}
+use Rattle.std.proofs.Common.{rules, ◌∙◌, ◌-◌, ◌+◌, ◌≡◌, ap, sym, arith, length}
+use Rattle.std.proofs.lemmas.List.{nil_from_length}
 use Rattle.xr_node.proofs.ItemTesting.{records_count}
-use Rattle.xr_node.proofs.Keys.{greatest_last, greatest_more}
+use Rattle.xr_node.proofs.Keys.{greatest_last, greatest_more, greatest_none}
 use Rattle.xr_blocks.specs.TreeBlock.{records_in}
 use Rattle.xr_node.proofs.key_test.put_greatest.Goals as goal
+
+pub returns-then-HIGH-eq0 : goal.returns-then-HIGH-eq0
+returns-then-HIGH-eq0 g c =
+    let form = g.R.Record.form in
+    let none : form.high ≡ 0 = search rules in
+    nil_from_length c.args.out.now (c.requires.room ∙ none) ∙ sym (greatest_none form.high_of (records_in form c.args.block.now) (λ x. g.met.R.Record.is_form.high_sized x ∙ none))
 
 pub loop-k-init : goal.loop-k-init
 loop-k-init g c =
