@@ -8,7 +8,7 @@ use Rattle.byteorder.specs.Endian.{big_bytes, big_number, little_bytes}
 use Rattle.byteorder.specs.Numbers.{big_from-take, big_number-reads_back, length-bytes_high_first}
 use Rattle.xr_base.specs.Checksum.{checksum_of, without_four}
 use Rattle.xr_base.specs.Image.{overlaid, part}
-use Rattle.xr_base.specs.ImageLaws.{part_below}
+use Rattle.xr_base.specs.ImageLaws.{length-overlaid, part_below}
 use Rattle.xr_base.specs.declared.geometry.TheConstants.{BLOCK_BYTES}
 use Rattle.xr_blocks.specs.BigEndianLaws.{drop-bytes, reads_alone}
 use Rattle.xr_blocks.specs.Form.{Form, IsForm, header_size, key_size, pointer_size}
@@ -63,6 +63,14 @@ module _ {X : Type 0} (form : Form X) (site : Site) (place : Place) (count : ℕ
   length-fields : length fields ≤ BLOCK_BYTES
   unfolding fields
   length-fields = omega (arith, length-append (header form site place count) items, length-header form site place count whole)
+
+  pub length-tree_block : length (tree_block form site place count items) ≡ BLOCK_BYTES
+  unfolding tree_block fields
+  length-tree_block =
+      let fill = fields_fill form.long in
+      let long = length-filled BLOCK_BYTES fields length-fields in
+      let sum : List ℕ = little_bytes 4 (checksum_of (without_four (sum_place form) (filled BLOCK_BYTES fields))) in
+      length-overlaid (sum_place form) sum (filled BLOCK_BYTES fields) (omega (arith, fill, long)) ∙ long
 
   -- the items stand behind the header
   pub items_in_block : drop (header_size form) (tree_block form site place count items) ≡ items ++ replicate (BLOCK_BYTES - length (header form site place count ++ items)) 0

@@ -1,10 +1,11 @@
 -- What stays of an overlay's blocks where some change.
-use Rattle.std.proofs.Common.{◌≡◌, ◌≢◌, ℕ, zero, suc, ◌*◌, ◌/◌, ◌≤◌, Bool, true, false, List, [], ◌∷◌, length, get_or, set, refl, sym, ap, ◌∙◌, arith, ⊎_elim, ◌<◌}
+use Rattle.std.proofs.Common.{◌≡◌, ◌≢◌, ℕ, zero, suc, ◌*◌, ◌/◌, ◌≤◌, Bool, true, false, List, [], ◌∷◌, length, get_or, set, refl, sym, ap, ◌∙◌, arith, ⊎_elim, ◌+◌, ◌<◌, replicate}
 use Rattle.std.proofs.lemmas.Bool.{cases_eq}
 use Rattle.std.proofs.lemmas.List.{get_or-set_other, get_or-set_same, get_or_past, length-append, length-replicate, length-set}
 use Rattle.xr_base.specs.Image.{part}
 use Rattle.xr_base.specs.declared.geometry.TheConstants.{BLOCK_BYTES}
-use Rattle.xr_blocks.specs.Overlay.{AreBlocks, Blocks, IsFilePool, IsGroupPool, IsPool, block_at, blocks_in, no_marks, opened, owner_of, pool_size, with_block}
+use Rattle.xr_blocks.specs.Marks.{marked}
+use Rattle.xr_blocks.specs.Overlay.{AreBlocks, Blocks, IsFilePool, IsGroupPool, IsPool, block_at, blocks_in, changed_blocks, no_marks, opened, owner_of, pool_size, with_block}
 
 pub length-blocks_in : (n : ℕ) (bytes : List ℕ) → length (blocks_in n bytes) ≡ n
 unfolding blocks_in
@@ -72,3 +73,24 @@ block_written b n bytes within = get_or-set_same b.current n bytes [] within
 
 pub block_beside : (b : Blocks) (n k : ℕ) (bytes : List ℕ) → k ≢ n → block_at (with_block b n bytes) k ≡ block_at b k
 block_beside b n k bytes other = get_or-set_other b.current n k bytes [] other
+
+-- a write changes at most one block more
+marked_more : (k n : ℕ) (marks : List Bool) → length (marked k (set marks n true)) ≤ length (marked k marks) + 1
+unfolding marked
+marked_more k n [] = omega arith
+marked_more k zero (true ∷ marks) = omega arith
+marked_more k zero (false ∷ marks) = omega arith
+marked_more k (suc n) (true ∷ marks) = let rest = marked_more (suc k) n marks in omega arith
+marked_more k (suc n) (false ∷ marks) = marked_more (suc k) n marks
+
+pub changed_more : (b : Blocks) (n : ℕ) (bytes : List ℕ) → length (changed_blocks (with_block b n bytes)) ≤ length (changed_blocks b) + 1
+changed_more b n bytes = marked_more 0 n b.changed
+
+-- none is changed where all is kept, and where all is dropped
+none_marked : (k n : ℕ) → marked k (replicate n false) ≡ []
+unfolding marked
+none_marked k zero = refl
+none_marked k (suc n) = none_marked (suc k) n
+
+pub none_changed : (blocks : List (List ℕ)) → marked 0 (no_marks blocks) ≡ []
+none_changed blocks = none_marked 0 (length blocks)
