@@ -1,2 +1,2 @@
-pub mod Remainders
-pub mod TableEntries
+pub mod RemainderLemmas
+pub mod TableLemmas

@@ -37,6 +37,6 @@ abbrev pub without_four : ℕ → List ℕ → List ℕ
 without_four at bytes = take at bytes ++ replicate 4 0 ++ drop (at + 4) bytes
 
 -- the number whose digits to the base 256 are the bytes, the lowest first
-abbrev pub number_of : List ℕ → ℕ
-number_of [] = 0
-number_of (byte ∷ bytes) = byte + 256 * number_of bytes
+abbrev pub le_number : List ℕ → ℕ
+le_number [] = 0
+le_number (byte ∷ bytes) = byte + 256 * le_number bytes

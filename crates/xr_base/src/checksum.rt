@@ -1,6 +1,6 @@
 //! CRC32C, the checksum of log records, headers and tree blocks. It goes by table, eight bytes a step.
 ghost use Rattle.std.specs.Prelude.{◌≡◌, ◌+◌, ◌*◌, ◌<◌, ◌≤◌, bit_xor, length, drop, take};
-ghost use Rattle.xr_base.specs.Checksum.{after_bits, after_byte, after_bytes, number_of, checksum_of, without_four};
+ghost use Rattle.xr_base.specs.Checksum.{after_bits, after_byte, after_bytes, checksum_of, without_four, le_number};
 
 use crate::tables::TABLES;
 
@@ -41,7 +41,7 @@ fn take_word(remainder: u32, word: u64) -> u32
 /// Eight bytes as a number, the first as its lowest digit.
 fn word_at(bytes: &[u8], at: usize) -> u64
     requires { at + 8 ≤ length bytes.now }
-    ensures { result ≡ number_of (take 8 (drop at bytes.now)) }
+    ensures { result ≡ le_number (take 8 (drop at bytes.now)) }
 {
     u64::from_le_bytes([
         bytes[at],

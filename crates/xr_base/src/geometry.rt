@@ -6,6 +6,12 @@ pub const BLOCK_BYTES: usize = 4096;
 /// Bytes of a sector, the unit in which a disk is read and written.
 pub const SECTOR_BYTES: usize = 512;
 
+/// Sectors of a block.
+pub const BLOCK_SECTORS: u32 = 8;
+
+/// Bytes of an identifier.
+pub const UUID_BYTES: usize = 16;
+
 /// Blocks of an image.
 pub const BLOCKS: u32 = 8968;
 
@@ -17,6 +23,9 @@ pub const FIRST_LOG_BLOCK: u32 = 8;
 
 /// Sectors of the log.
 pub const LOG_SECTORS: u32 = 4096;
+
+/// The cycle that no log record may have. All below it but 0 are cycles.
+pub const CYCLES: u32 = 4_000_000_000;
 
 /// Files of an image.
 pub const FILES: u32 = 32;
@@ -32,6 +41,9 @@ pub const OFFSETS: u32 = 512;
 
 /// The inode number of file 0. File `f` has the inode number `FIRST_INODE + f`.
 pub const FIRST_INODE: u64 = 128;
+
+/// Whose staged blocks are, in records that name an owner: -9 as an unsigned number.
+pub const OWN_COW: u64 = 0xFFFF_FFFF_FFFF_FFF7;
 
 /// Allocation groups of an image.
 pub const GROUPS: u32 = 4;

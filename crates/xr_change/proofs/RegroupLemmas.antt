@@ -1,21 +1,21 @@
 -- Some blocks of a row are taken for others that hold the same items: what stands under them is another tree of the same records.
 use Rattle.std.proofs.Common.{take, drop, ◌≡◌, ℕ, ◌+◌, ◌<◌, ◌≤◌, true, false, Option, Some, None, List, ◌∷◌, ◌++◌, refl, sym, ap, ◌∙◌, subst, arith, ⊎_elim}
 use Rattle.std.specs.List.{last_or}
-use Rattle.xr_blocks.specs.Form.{Form, IsForm}
-use Rattle.xr_blocks.specs.Overlay.{Blocks, block_at, is_free, pool_size}
-use Rattle.xr_blocks.specs.Rows.{AreLinked, AreRowsOf, first_of, half, named_below}
-use Rattle.xr_blocks.specs.Times.{times}
-use Rattle.xr_blocks.specs.Tree.{IsUsed, blocks_of, records_of, site_of, tree_held}
-use Rattle.xr_blocks.specs.TreeBlock.{Place, Site}
-use Rattle.xr_change.proofs.Grouping.{items_append, items_same, records_regrouped, rest_regrouped, rows_regrouped, times_rest_append, times_rows, whole_same}
-use Rattle.xr_change.proofs.NodeContext.{counted, first_behind, first_within, is_some_of, last_names, linked_after, linked_joined, linked_stays, row_parts}
-use Rattle.xr_change.proofs.Neighbours.{block_of, relinked_holds}
-use Rattle.xr_change.proofs.NodeChanges.{whole_relinked}
-use Rattle.xr_change.proofs.RowBlocks.{holds_same, times_append, times_row}
+use Rattle.xr_kinds.specs.Form.{Form, IsForm}
+use Rattle.xr_pool.specs.Overlay.{Blocks, block_at, is_free, pool_size}
+use Rattle.xr_block.specs.Rows.{AreLinked, AreRowsOf, first_of, half, named_below}
+use Rattle.xr_block.specs.Times.{times}
+use Rattle.xr_block.specs.Tree.{IsUsed, blocks_of, records_of, site_of, tree_held}
+use Rattle.xr_block.specs.TreeBlock.{Place, Site}
+use Rattle.xr_change.proofs.SameItemLemmas.{items_append, items_same, records_regrouped, rest_regrouped, rows_regrouped, times_rest_append, times_rows, whole_same}
+use Rattle.xr_change.proofs.NodeContextLemmas.{counted, first_behind, first_within, is_some_of, last_names, linked_after, linked_joined, linked_stays, row_parts}
+use Rattle.xr_change.proofs.SiblingLemmas.{block_of, relinked_holds}
+use Rattle.xr_change.proofs.NodeChangeLemmas.{whole_relinked}
+use Rattle.xr_change.proofs.RowBlockLemmas.{holds_same, times_append, times_row}
 use Rattle.xr_change.specs.Alters.{AreKnown, AreRowsIn, HoldsSame, IsSamePool, IsWholeAt, Takes}
 use Rattle.xr_change.specs.Regroups.{HasKey, HaveSameItems, IsRelinked, StayLinked, blocks_below}
 use Rattle.xr_change.specs.Writes.{MarksAtMost, is_changed}
-use Rattle.xr_node.specs.BlockTest.{right_in}
+use Rattle.xr_block.specs.Checks.{right_in}
 
 -- c and the blocks behind it are taken for c and others with the same items, and the node n that names them as its k-th and the next is as it was
 pub record Moves {X : Type 0} (form : Form X) (before after : Blocks) (level n k t c more : ℕ) (olds news : List ℕ) : Type 0 where

@@ -11,10 +11,10 @@ use Rattle.std.specs.List.{All, AllPairs, Contains, insert, remove, slice_set}
 use Rattle.std.specs.Ordering.{is_eq, is_lt, ordering_reverse}
 use Rattle.std.specs.declared.cmp.Ordering.{Ordering}
 use Rattle.std.specs.declared.cmp.Ordering.TheVariants.{Less, Equal}
-use Rattle.xr_blocks.specs.Form.{Form, IsForm}
-use Rattle.xr_blocks.specs.Tree.{AreRecords}
+use Rattle.xr_kinds.specs.Form.{Form, IsForm}
+use Rattle.xr_block.specs.Tree.{AreRecords}
 use Rattle.xr_change.specs.Sets.{inserted, removed, replaced}
-use Rattle.xr_lookup.specs.Cuts.{IsPlaceOf}
+use Rattle.xr_block.specs.Bounds.{IsPlaceOf}
 
 -- the place among all items but the first
 pub place_down : {X : Type 0} {test : X → Bool} {x : X} {xs : List X} {k : ℕ} → IsPlaceOf test (x ∷ xs) (suc k) → IsPlaceOf test xs k

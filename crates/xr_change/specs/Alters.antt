@@ -1,12 +1,12 @@
 -- A change of what stands under one block of a tree, whatever stands beside the block in its row.
 use Rattle.std.specs.Prelude.{◌≡◌, ℕ, zero, suc, ◌≤◌, true, false, List, [], ◌∷◌, ◌++◌, length}
-use Rattle.xr_blocks.specs.Form.{Form}
+use Rattle.xr_kinds.specs.Form.{Form}
 use Rattle.xr_base.specs.declared.geometry.TheConstants.{BLOCKS}
-use Rattle.xr_blocks.specs.Overlay.{AreBlocks, AreWhole, Blocks, block_at, is_free, pool_size}
-use Rattle.xr_blocks.specs.Rows.{AreRowsOf, Held, IsWholeLeaf, IsWholeNode, half}
-use Rattle.xr_blocks.specs.Times.{times}
-use Rattle.xr_blocks.specs.Tree.{IsUsed, blocks_of, site_of, tree_held}
-use Rattle.xr_blocks.specs.TreeBlock.{Place, Site, entries_in, records_in}
+use Rattle.xr_pool.specs.Overlay.{AreBlocks, AreWhole, Blocks, block_at, is_free, pool_size}
+use Rattle.xr_block.specs.Rows.{AreRowsOf, Held, IsWholeLeaf, IsWholeNode, half}
+use Rattle.xr_block.specs.Times.{times}
+use Rattle.xr_block.specs.Tree.{IsUsed, blocks_of, site_of, tree_held}
+use Rattle.xr_block.specs.TreeBlock.{Place, Site, entries_in, records_in}
 
 -- what is known of any overlay
 pub record AreKnown (b : Blocks) : Type 0 where

@@ -1,12 +1,12 @@
 -- The records below a block, changed by an insertion, a removal or a replacement, and the way down to the child in which it goes on.
 use Rattle.std.specs.Prelude.{◌≡◌, ℕ, suc, ◌+◌, ◌*◌, ◌<◌, ◌≤◌, true, List, [], ◌∷◌, ◌++◌, length, take, drop}
 use Rattle.std.specs.List.{Contains}
-use Rattle.xr_blocks.specs.Form.{Form}
-use Rattle.xr_blocks.specs.Frame.{ChangesOnly}
-use Rattle.xr_blocks.specs.Overlay.{Blocks, block_at, changed_blocks, free_count, pool_size}
-use Rattle.xr_blocks.specs.Rows.{half, named_below}
-use Rattle.xr_blocks.specs.Tree.{IsTreeIn, records_of, tree_blocks, tree_held, tree_records}
-use Rattle.xr_blocks.specs.TreeBlock.{count_in, entries_in}
+use Rattle.xr_kinds.specs.Form.{Form}
+use Rattle.xr_block.specs.Frame.{ChangesOnly}
+use Rattle.xr_pool.specs.Overlay.{Blocks, block_at, changed_blocks, free_count, pool_size}
+use Rattle.xr_block.specs.Rows.{half, named_below}
+use Rattle.xr_block.specs.Tree.{IsTreeIn, records_of, tree_blocks, tree_held, tree_records}
+use Rattle.xr_block.specs.TreeBlock.{count_in, entries_in}
 use Rattle.xr_change.specs.Alters.{Alters, AreRowsIn}
 use Rattle.xr_change.specs.Regroups.{IsSameUnder}
 use Rattle.xr_change.specs.Sets.{inserted, removed, replaced}

@@ -1,12 +1,12 @@
 -- The blocks of a pool while some of them are edited, as they are once those that were edited have their checksums.
 use Rattle.std.specs.Prelude.{◌≡◌, ℕ, suc, ◌<◌, Bool, true, if◌then◌else◌, List, [], ◌∷◌, drop, nat_eq}
 use Rattle.std.specs.List.{All, list_any}
-use Rattle.xr_blocks.specs.Form.{Form, header_size}
-use Rattle.xr_blocks.specs.Overlay.{Blocks, pool_size}
-use Rattle.xr_blocks.specs.TreeBlock.{count_in}
+use Rattle.xr_kinds.specs.Form.{Form, header_size}
+use Rattle.xr_pool.specs.Overlay.{Blocks, pool_size}
+use Rattle.xr_block.specs.TreeBlock.{count_in}
 use Rattle.xr_change.specs.Writes.{is_changed}
-use Rattle.xr_edit.specs.Edit.{sealed}
-use Rattle.xr_node.specs.BlockTest.{left_in, right_in}
+use Rattle.xr_block.specs.Edits.{sealed}
+use Rattle.xr_block.specs.Checks.{left_in, right_in}
 
 -- whether a block is one of these
 abbrev pub is_edited : List ℕ → ℕ → Bool

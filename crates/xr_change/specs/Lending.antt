@@ -1,9 +1,9 @@
 -- A block of a draft that is lent.
 use Rattle.std.specs.Prelude.{ℕ, List}
 use Rattle.std.specs.Borrow.{Lends, MutBor, Fml, Array, RattleType, u8}
-use Rattle.xr_blocks.specs.Overlay.{Blocks, with_block}
-use Rattle.xr_blocks.specs.declared.record.Record.{Ghosts}
-use Rattle.xr_edit.specs.Edit.{sealed}
+use Rattle.xr_pool.specs.Overlay.{Blocks, with_block}
+use Rattle.xr_kinds.specs.declared.record.Record.{Ghosts}
+use Rattle.xr_block.specs.Edits.{sealed}
 use Rattle.xr_change.specs.contracts.draft.Draft.{the_row}
 
 -- the draft ends with the block as it was last written, with its checksum

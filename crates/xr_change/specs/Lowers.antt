@@ -1,9 +1,9 @@
 -- A tree whose root is another block, one level lower or one higher: its records are the same.
 use Rattle.std.specs.Prelude.{◌≡◌, ℕ, ◌+◌, ◌<◌, ◌≤◌, true, [], ◌∷◌}
-use Rattle.xr_blocks.specs.Form.{Form}
-use Rattle.xr_blocks.specs.Frame.{ChangesOnly}
-use Rattle.xr_blocks.specs.Overlay.{Blocks, free_count}
-use Rattle.xr_blocks.specs.Tree.{IsTreeIn, records_of, tree_blocks, tree_records}
+use Rattle.xr_kinds.specs.Form.{Form}
+use Rattle.xr_block.specs.Frame.{ChangesOnly}
+use Rattle.xr_pool.specs.Overlay.{Blocks, free_count}
+use Rattle.xr_block.specs.Tree.{IsTreeIn, records_of, tree_blocks, tree_records}
 use Rattle.xr_change.specs.Alters.{AreRowsIn}
 use Rattle.xr_change.specs.Ways.{HasSome, IsInTree, blocks_wanted, full_on_way, item_count, item_most, next_full}
 use Rattle.xr_change.specs.Writes.{MarksAtMost, is_changed}

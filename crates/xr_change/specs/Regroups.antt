@@ -2,17 +2,17 @@
 -- hold the same items: one is split, two share their items anew, or two become one.
 use Rattle.std.specs.Prelude.{◌≡◌, ℕ, zero, suc, ◌<◌, ◌≤◌, true, Option, Some, List, [], ◌∷◌, ◌++◌, length, map, take, drop}
 use Rattle.std.specs.List.{flat_map}
-use Rattle.xr_blocks.specs.Form.{Form}
-use Rattle.xr_blocks.specs.Overlay.{Blocks, block_at, is_free, pool_size}
-use Rattle.xr_blocks.specs.Rows.{AreLinked, half, key_held, named_below}
-use Rattle.xr_blocks.specs.Times.{times}
-use Rattle.xr_blocks.specs.Tree.{blocks_of, records_of, site_of, tree_held}
-use Rattle.xr_blocks.specs.TreeBlock.{Entry, Place, Site, count_in, entries_in, node_bytes, records_in, tree_block}
+use Rattle.xr_kinds.specs.Form.{Form}
+use Rattle.xr_pool.specs.Overlay.{Blocks, block_at, is_free, pool_size}
+use Rattle.xr_block.specs.Rows.{AreLinked, half, key_held, named_below}
+use Rattle.xr_block.specs.Times.{times}
+use Rattle.xr_block.specs.Tree.{blocks_of, records_of, site_of, tree_held}
+use Rattle.xr_block.specs.TreeBlock.{Entry, Place, Site, count_in, entries_in, node_bytes, records_in, tree_block}
 use Rattle.xr_change.specs.Alters.{Alters, HoldsSame, IsWholeAt, Takes}
 use Rattle.xr_change.specs.Ways.{item_most}
 use Rattle.xr_change.specs.Writes.{Writes, WritesOnly}
-use Rattle.xr_edit.specs.Edit.{IsLeafOf, IsNodeOf}
-use Rattle.xr_node.specs.BlockTest.{HoldsRecords, left_in, place_in, right_in}
+use Rattle.xr_block.specs.Edits.{IsLeafOf, IsNodeOf}
+use Rattle.xr_block.specs.Checks.{HoldsRecords, left_in, place_in, right_in}
 
 abbrev pub Item : Type 0 → ℕ → Type 0
 Item X zero = X

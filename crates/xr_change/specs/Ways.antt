@@ -2,14 +2,14 @@
 use Rattle.std.specs.Prelude.{◌≡◌, ℕ, zero, suc, ◌+◌, ◌-◌, ◌^◌, ◌<◌, ◌≤◌, ◌==◌, ⊤, Bool, true, if◌then◌else◌, List, [], ◌∷◌, ◌++◌, length, slice_index_or, take, drop}
 use Rattle.std.specs.List.{All, AllPairs}
 use Rattle.std.specs.declared.cmp.Ordering.TheVariants.{Less}
-use Rattle.xr_blocks.specs.Form.{Form}
-use Rattle.xr_blocks.specs.Overlay.{Blocks, block_at}
-use Rattle.xr_blocks.specs.Rows.{named_below}
-use Rattle.xr_blocks.specs.Tree.{records_of, tree_held}
-use Rattle.xr_blocks.specs.TreeBlock.{Entry, entries_in, records_in}
+use Rattle.xr_kinds.specs.Form.{Form}
+use Rattle.xr_pool.specs.Overlay.{Blocks, block_at}
+use Rattle.xr_block.specs.Rows.{named_below}
+use Rattle.xr_block.specs.Tree.{records_of, tree_held}
+use Rattle.xr_block.specs.TreeBlock.{Entry, entries_in, records_in}
 use Rattle.xr_change.specs.Alters.{AreKnown, AreRowsIn}
-use Rattle.xr_lookup.specs.Cuts.{entry_is_before}
-use Rattle.xr_lookup.specs.declared.cut.Cut.TheVariants.{Behind}
+use Rattle.xr_block.specs.Bounds.{entry_is_before}
+use Rattle.xr_block.specs.declared.bound.Cut.TheVariants.{Behind}
 
 -- how many items there are, at most, and whether a block of a level has as many
 abbrev pub item_count : {X : Type 0} → Form X → Blocks → ℕ → ℕ → ℕ

@@ -1,7 +1,7 @@
 -- What is written of an overlay, one block or some, and how many blocks are changed in all.
 use Rattle.std.specs.Prelude.{◌≡◌, ℕ, ◌+◌, ◌≤◌, Bool, true, false, if◌then◌else◌, List, [], ◌∷◌, length, slice_index_or}
-use Rattle.xr_blocks.specs.Overlay.{Blocks, block_at, changed_blocks, is_free}
-use Rattle.xr_blocks.specs.Times.{times}
+use Rattle.xr_pool.specs.Overlay.{Blocks, block_at, changed_blocks, is_free}
+use Rattle.xr_block.specs.Times.{times}
 use Rattle.xr_change.specs.Alters.{IsSamePool}
 
 -- one block is written

@@ -1,8 +1,8 @@
 //! Changes of a whole tree that make it no larger: a record less, and a record in the place of another.
 ghost use Rattle.std.specs.Prelude.{◌≡◌, ◌≤◌, [], ◌∷◌};
 ghost use Rattle.std.specs.List.{Contains};
-ghost use Rattle.xr_blocks.specs.Overlay.{free_count};
-ghost use Rattle.xr_blocks.specs.Tree.{AreRecords, IsTreeIn, tree_records};
+ghost use Rattle.xr_pool.specs.Overlay.{free_count};
+ghost use Rattle.xr_block.specs.Tree.{AreRecords, IsTreeIn, tree_records};
 ghost use Rattle.xr_change.specs.Alters.{AreRowsIn};
 ghost use Rattle.xr_change.specs.Changes.{Becomes};
 ghost use Rattle.xr_change.specs.Lowers.{Lowers};
@@ -14,8 +14,8 @@ use crate::removal::remove_below;
 use crate::replacement::replace_below;
 use crate::root::Root;
 use crate::way::child_block;
-use xr_blocks::Record;
-use xr_node::read::count_of;
+use xr_block::read::count_of;
+use xr_kinds::Record;
 
 /// The root of a tree that may have one child: the child is the root then, and the old root's block is given back.
 fn lower<R: Record>(draft: &mut Draft<R>, root: Root) -> Root
@@ -38,7 +38,7 @@ fn lower<R: Record>(draft: &mut Draft<R>, root: Root) -> Root
 }
 
 /// Cuts a record out of a tree. Gives the root, which is another block where the old one had one child left.
-#[tactic(auto, using(crate::proofs::WholeChanges::root_here))]
+#[tactic(auto, using(crate::proofs::WholeTreeLemmas::root_here))]
 pub(crate) fn remove_in<R: Record>(draft: &mut Draft<R>, root: Root, r: &R) -> Root
     requires tree { IsTreeIn R.form draft.old root.number root.level }
     requires held { Contains (tree_records R.form draft.old root.number root.level) r.now }
@@ -50,7 +50,7 @@ pub(crate) fn remove_in<R: Record>(draft: &mut Draft<R>, root: Root, r: &R) -> R
 }
 
 /// Writes a record over another one of a tree, in whose place of the order it stands.
-#[tactic(auto, using(crate::proofs::WholeChanges::root_here))]
+#[tactic(auto, using(crate::proofs::WholeTreeLemmas::root_here))]
 pub(crate) fn replace_in<R: Record>(draft: &mut Draft<R>, root: Root, old: &R, new: &R)
     requires tree { IsTreeIn R.form draft.old root.number root.level }
     requires held { Contains (tree_records R.form draft.old root.number root.level) old.now }

@@ -1,17 +1,18 @@
 //! Items of one or two blocks of a level that are dealt anew, with the links of the blocks.
 ghost use Rattle.std.specs.Prelude.{◌≡◌, ℕ, ◌+◌, ◌^◌, ◌<◌, ◌≤◌, [], ◌∷◌, Some};
 ghost use Rattle.std.specs.Option.{option_to_list};
-ghost use Rattle.xr_blocks.specs.Overlay.{block_at, pool_size};
-ghost use Rattle.xr_blocks.specs.Rows.{half};
+ghost use Rattle.xr_pool.specs.Overlay.{block_at, pool_size};
+ghost use Rattle.xr_block.specs.Rows.{half};
 ghost use Rattle.xr_change.specs.Regroups.{Deals, IsPlaced};
 ghost use Rattle.xr_change.specs.Ways.{item_count, item_most};
-ghost use Rattle.xr_node.specs.BlockTest.{left_in, right_in};
+ghost use Rattle.xr_block.specs.Checks.{left_in, right_in};
 
 use crate::draft::Draft;
 use crate::one_block::{copy_of, gather, pool_number, relink};
-use xr_blocks::{Block, Record};
-use xr_node::neighbours::{left_of, right_of};
-use xr_node::read::count_of;
+use xr_block::read::count_of;
+use xr_block::siblings::{left_of, right_of};
+use xr_kinds::Record;
+use xr_pool::Block;
 
 /// The neighbours of a block, as numbers of the pool.
 fn neighbours<R: Record>(block: &Block) -> (Option<u32>, Option<u32>)

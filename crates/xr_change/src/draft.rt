@@ -3,17 +3,18 @@
 ghost use Rattle.std.specs.Prelude.{◌≡◌, ℕ, ◌<◌, ◌≤◌, [], List, true};
 ghost use Rattle.std.specs.Borrow.{sem};
 ghost use Rattle.arrayvec.specs.ArrayVec.{array_vec_len};
-ghost use Rattle.xr_blocks.specs.Overlay.{block_at, free_count, is_free, pool_size, with_block, with_given, with_taken};
-ghost use Rattle.xr_blocks.specs.Tree.{site_of};
+ghost use Rattle.xr_pool.specs.Overlay.{block_at, free_count, is_free, pool_size, with_block, with_given, with_taken};
+ghost use Rattle.xr_block.specs.Tree.{site_of};
 ghost use Rattle.xr_change.specs.Alters.{AreKnown};
 ghost use Rattle.xr_change.specs.Draft.{AreEdited, ReadsAs, all_sealed};
 ghost use Rattle.xr_change.specs.Lending.{lends_block};
-ghost use Rattle.xr_edit.specs.Edit.{IsHeader, sealed};
+ghost use Rattle.xr_block.specs.Edits.{IsHeader, sealed};
 
 use arrayvec::ArrayVec;
 use std::marker::{Model, PhantomData};
-use xr_blocks::{Block, Overlay, Record};
-use xr_edit::{Header, seal};
+use xr_block::{Header, seal};
+use xr_kinds::Record;
+use xr_pool::{Block, Overlay};
 
 /// How many blocks a change edits at most: three a level and one more. No pool has room for a tree of 16 levels.
 const EDITED_MAX: usize = 49;
@@ -30,7 +31,7 @@ pub(crate) struct Draft<R: Record> {
 }
 
 impl<R: Record> Model for Draft<R> {
-    ghost use Rattle.xr_blocks.specs.Overlay.{Blocks};
+    ghost use Rattle.xr_pool.specs.Overlay.{Blocks};
     ghost use Rattle.xr_change.specs.Draft.{AreEdited, all_sealed};
 
     ghost Value = { Blocks };

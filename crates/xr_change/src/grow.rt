@@ -1,10 +1,10 @@
 //! A record more in a whole tree, which grows by a level where its root is full.
 ghost use Rattle.std.specs.Prelude.{◌≡◌, ◌+◌, ◌^◌, ◌<◌, ◌≤◌, [], ◌∷◌, None, length};
-ghost use Rattle.xr_blocks.specs.Form.{key_size, pointer_size};
-ghost use Rattle.xr_blocks.specs.Overlay.{block_at, free_count, pool_size};
-ghost use Rattle.xr_blocks.specs.Rows.{half};
-ghost use Rattle.xr_blocks.specs.Tree.{AreRecords, IsTreeIn, site_of, tree_records};
-ghost use Rattle.xr_blocks.specs.TreeBlock.{Place, Site};
+ghost use Rattle.xr_kinds.specs.Form.{key_size, pointer_size};
+ghost use Rattle.xr_pool.specs.Overlay.{block_at, free_count, pool_size};
+ghost use Rattle.xr_block.specs.Rows.{half};
+ghost use Rattle.xr_block.specs.Tree.{AreRecords, IsTreeIn, site_of, tree_records};
+ghost use Rattle.xr_block.specs.TreeBlock.{Place, Site};
 ghost use Rattle.xr_change.specs.Alters.{AreRowsIn};
 ghost use Rattle.xr_change.specs.Changes.{Becomes};
 ghost use Rattle.xr_change.specs.Lowers.{Raises};
@@ -12,17 +12,18 @@ ghost use Rattle.xr_change.specs.Regroups.{entry_for};
 ghost use Rattle.xr_change.specs.Sets.{inserted};
 ghost use Rattle.xr_change.specs.Ways.{blocks_wanted, item_count, item_most};
 ghost use Rattle.xr_change.specs.Writes.{Writes};
-ghost use Rattle.xr_edit.specs.Edit.{IsHeader, IsNodeOf, sealed};
+ghost use Rattle.xr_block.specs.Edits.{IsHeader, IsNodeOf, sealed};
 
 use crate::draft::Draft;
 use crate::insertion::insert_below;
 use crate::one_block::put_key;
 use crate::room::is_full;
 use crate::root::Root;
-use xr_blocks::{Block, Record};
-use xr_edit::{Header, build_node, put_number};
-use xr_node::key_test::{KEY_ROOM, key_fits};
-use xr_node::read::pointer_bytes;
+use xr_block::key::{KEY_ROOM, key_fits};
+use xr_block::read::pointer_bytes;
+use xr_block::{Header, build_node, put_number};
+use xr_kinds::Record;
+use xr_pool::Block;
 
 /// Bytes of the longest pointer.
 const POINTER_ROOM: usize = 8;
@@ -75,7 +76,7 @@ fn raise<R: Record>(draft: &mut Draft<R>, root: Root, r: &R) -> Root
 }
 
 /// Puts a record into a tree. Gives the root, which is a new block where the old one was full.
-#[tactic(auto, using(crate::proofs::WholeChanges::root_here))]
+#[tactic(auto, using(crate::proofs::WholeTreeLemmas::root_here))]
 pub(crate) fn insert_in<R: Record>(draft: &mut Draft<R>, root: Root, r: &R) -> Root
     requires tree { IsTreeIn R.form draft.old root.number root.level }
     requires rules { AreRecords R.form (inserted R.form.order r.now (tree_records R.form draft.old root.number root.level)) }

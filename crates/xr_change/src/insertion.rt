@@ -1,6 +1,6 @@
 //! A record more in a tree: on the way down full blocks are split, and on the way back keys are mended.
 ghost use Rattle.std.specs.Prelude.{◌≡◌, ◌+◌, ◌<◌, ◌≤◌, IsTrue};
-ghost use Rattle.xr_blocks.specs.Overlay.{free_count};
+ghost use Rattle.xr_pool.specs.Overlay.{free_count};
 ghost use Rattle.xr_change.specs.Changes.{HasRoom, Inserts};
 ghost use Rattle.xr_change.specs.Ways.{HasSome, IsInTree, child_of, full_on_way, item_count, item_most};
 
@@ -9,7 +9,7 @@ use crate::leaves::insert_in_leaf;
 use crate::mend::mend_key;
 use crate::room::roomy_way;
 use crate::way::{Step, child_block};
-use xr_blocks::Record;
+use xr_kinds::Record;
 
 /// The child of a node under which a record belongs, with room for one item more. The level is that of the children.
 fn step_down<R: Record>(draft: &mut Draft<R>, n: u32, level: u32, r: &R) -> Step

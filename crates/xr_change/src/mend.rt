@@ -1,19 +1,19 @@
 //! Keys of a node are mended once what stands under a child is another tree.
 ghost use Rattle.std.specs.Prelude.{◌≡◌, [], ◌∷◌, List};
-ghost use Rattle.xr_blocks.specs.Overlay.{block_at};
-ghost use Rattle.xr_blocks.specs.Rows.{key_held};
-ghost use Rattle.xr_blocks.specs.Tree.{tree_held};
-ghost use Rattle.xr_blocks.specs.TreeBlock.{Entry, Place, Site};
+ghost use Rattle.xr_pool.specs.Overlay.{block_at};
+ghost use Rattle.xr_block.specs.Rows.{key_held};
+ghost use Rattle.xr_block.specs.Tree.{tree_held};
+ghost use Rattle.xr_block.specs.TreeBlock.{Entry, Place, Site};
 ghost use Rattle.xr_change.specs.Changes.{MayMend};
 ghost use Rattle.xr_change.specs.Writes.{MarksAtMost, WritesOnly, unmarked};
-ghost use Rattle.xr_edit.specs.Edit.{IsNodeOf, with_key};
+ghost use Rattle.xr_block.specs.Edits.{IsNodeOf, with_key};
 
 use crate::draft::Draft;
 use crate::one_block::put_key;
-use xr_blocks::Record;
-use xr_edit::set_key;
-use xr_node::key_test::{KEY_ROOM, is_same, key_fits};
-use xr_node::read::key_at;
+use xr_block::key::{KEY_ROOM, is_same, key_fits};
+use xr_block::read::key_at;
+use xr_block::set_key;
+use xr_kinds::Record;
 
 /// Gives a child of a node the key that its block has now. Nothing is written where it has it already.
 pub(crate) fn mend_key<R: Record>(draft: &mut Draft<R>, n: u32, level: u32, k: usize, c: u32)

@@ -2,24 +2,25 @@
 ghost use Rattle.std.specs.Prelude.{◌≡◌, ℕ, ◌+◌, ◌-◌, ◌^◌, ◌<◌, ◌≤◌, ◌++◌, [], ◌∷◌, List, Some, length, take, drop};
 ghost use Rattle.std.specs.List.{insert, remove};
 ghost use Rattle.std.specs.Option.{option_to_list};
-ghost use Rattle.xr_blocks.specs.Form.{key_size};
-ghost use Rattle.xr_blocks.specs.Overlay.{block_at, pool_size};
-ghost use Rattle.xr_blocks.specs.Rows.{held_in, key_held};
-ghost use Rattle.xr_blocks.specs.Tree.{site_of, tree_held};
-ghost use Rattle.xr_blocks.specs.TreeBlock.{Entry, Place, Site, count_in};
+ghost use Rattle.xr_kinds.specs.Form.{key_size};
+ghost use Rattle.xr_pool.specs.Overlay.{block_at, pool_size};
+ghost use Rattle.xr_block.specs.Rows.{held_in, key_held};
+ghost use Rattle.xr_block.specs.Tree.{site_of, tree_held};
+ghost use Rattle.xr_block.specs.TreeBlock.{Entry, Place, Site, count_in};
 ghost use Rattle.xr_change.specs.Draft.{ReadsAs};
 ghost use Rattle.xr_change.specs.Regroups.{HasKey, IsBlockOf, IsRelinked, Item, entry_for};
 ghost use Rattle.xr_change.specs.Ways.{item_most};
 ghost use Rattle.xr_change.specs.Writes.{Writes};
-ghost use Rattle.xr_edit.specs.Edit.{IsHeader, IsNodeOf, sealed, with_key};
+ghost use Rattle.xr_block.specs.Edits.{IsHeader, IsNodeOf, sealed, with_key};
 
 use crate::draft::Draft;
-use xr_blocks::{Block, Record};
-use xr_edit::{
+use xr_block::key::{KEY_ROOM, key_fits};
+use xr_block::{
     Header, cut_entry, gather_leaf, gather_node, put_entry, put_key_of_leaf, put_key_of_node,
     set_key, set_left,
 };
-use xr_node::key_test::{KEY_ROOM, key_fits};
+use xr_kinds::Record;
+use xr_pool::Block;
 
 /// A copy of a block, which may have no checksum.
 pub(crate) fn copy_of<R: Record>(draft: &Draft<R>, n: u32) -> Block

@@ -1,8 +1,8 @@
 //! Children of a node that are rearranged: a full one is split, two share their items anew, or one takes the items of the next.
 ghost use Rattle.std.specs.Prelude.{◌≡◌, ◌+◌, ◌<◌, ◌≤◌, [], ◌∷◌, true, length};
-ghost use Rattle.xr_blocks.specs.Overlay.{block_at, free_count};
-ghost use Rattle.xr_blocks.specs.Rows.{half};
-ghost use Rattle.xr_blocks.specs.TreeBlock.{entries_in};
+ghost use Rattle.xr_pool.specs.Overlay.{block_at, free_count};
+ghost use Rattle.xr_block.specs.Rows.{half};
+ghost use Rattle.xr_block.specs.TreeBlock.{entries_in};
 ghost use Rattle.xr_change.specs.Regroups.{Regroups};
 ghost use Rattle.xr_change.specs.Ways.{IsInTree, child_of, item_count, item_most};
 ghost use Rattle.xr_change.specs.Writes.{MarksAtMost, is_changed, unchanged};
@@ -11,7 +11,7 @@ use crate::deal::{merge_items, share_items, split_items};
 use crate::draft::Draft;
 use crate::one_block::{cut_child, put_child, set_child_key};
 use crate::way::child_block;
-use xr_blocks::Record;
+use xr_kinds::Record;
 
 /// Splits a full child of a node that isn't full: a new block takes the upper half of its items and stands behind it. Gives the new
 /// block.

@@ -2,7 +2,7 @@
 //! it, and on the way back keys are mended.
 ghost use Rattle.std.specs.Prelude.{◌≡◌, ◌+◌, ◌≤◌, [], ◌∷◌};
 ghost use Rattle.std.specs.List.{Contains};
-ghost use Rattle.xr_blocks.specs.Tree.{records_of};
+ghost use Rattle.xr_block.specs.Tree.{records_of};
 ghost use Rattle.xr_change.specs.Changes.{HasSpare, Removes};
 ghost use Rattle.xr_change.specs.Ways.{HasTwo, IsInTree, child_of, item_count};
 
@@ -11,7 +11,7 @@ use crate::leaves::remove_from_leaf;
 use crate::mend::mend_key;
 use crate::spare::spare_way;
 use crate::way::{Step, child_block};
-use xr_blocks::Record;
+use xr_kinds::Record;
 
 /// The child of a node under which a record stands, with an item more than it needs. The level is that of the children.
 fn step_down<R: Record>(draft: &mut Draft<R>, n: u32, level: u32, r: &R) -> Step

@@ -1,7 +1,7 @@
 //! A record in the place of another. No block has another number of items then, so keys alone are mended.
 ghost use Rattle.std.specs.Prelude.{◌≡◌, ◌+◌, ◌≤◌, [], ◌∷◌, IsTrue};
 ghost use Rattle.std.specs.List.{Contains};
-ghost use Rattle.xr_blocks.specs.Tree.{records_of};
+ghost use Rattle.xr_block.specs.Tree.{records_of};
 ghost use Rattle.xr_change.specs.Changes.{HasWay, Replaces};
 ghost use Rattle.xr_change.specs.Sets.{replaced};
 ghost use Rattle.xr_change.specs.Ways.{HasSome, IsInTree, child_of, item_count};
@@ -10,7 +10,7 @@ use crate::draft::Draft;
 use crate::leaves::replace_in_leaf;
 use crate::mend::mend_key;
 use crate::way::{Step, child_block, way_of};
-use xr_blocks::Record;
+use xr_kinds::Record;
 
 /// The child of a node under which a record stands. The level is that of the children.
 fn step_down<R: Record>(draft: &Draft<R>, n: u32, level: u32, r: &R) -> Step

@@ -1,15 +1,15 @@
 //! Room on the way of a record that is to come into a tree.
 ghost use Rattle.std.specs.Prelude.{◌≡◌, ◌+◌, ◌<◌, ◌≤◌, length};
-ghost use Rattle.xr_blocks.specs.Overlay.{block_at, free_count};
-ghost use Rattle.xr_blocks.specs.TreeBlock.{entries_in};
+ghost use Rattle.xr_pool.specs.Overlay.{block_at, free_count};
+ghost use Rattle.xr_block.specs.TreeBlock.{entries_in};
 ghost use Rattle.xr_change.specs.Changes.{HasRoom};
 ghost use Rattle.xr_change.specs.Ways.{IsInTree, IsWay, child_of, full_on_way, is_full, item_count, item_most, way_place};
 
 use crate::draft::Draft;
 use crate::rearrange::split_child;
 use crate::way::{child_block, half_of, way_of};
-use xr_blocks::Record;
-use xr_node::read::count_of;
+use xr_block::read::count_of;
+use xr_kinds::Record;
 
 /// Whether a block has as many items as it may.
 pub(crate) fn is_full<R: Record>(draft: &Draft<R>, n: u32, level: u32) -> bool

@@ -1,18 +1,18 @@
 //! The way of a removal: a child that is only half full is given items of a neighbour, or joined with it.
 ghost use Rattle.std.specs.Prelude.{◌≡◌, ◌+◌, ◌^◌, ◌<◌, ◌≤◌, [], ◌∷◌, length};
 ghost use Rattle.std.specs.List.{Contains};
-ghost use Rattle.xr_blocks.specs.Overlay.{block_at};
-ghost use Rattle.xr_blocks.specs.Rows.{half};
-ghost use Rattle.xr_blocks.specs.Tree.{records_of};
-ghost use Rattle.xr_blocks.specs.TreeBlock.{entries_in};
+ghost use Rattle.xr_pool.specs.Overlay.{block_at};
+ghost use Rattle.xr_block.specs.Rows.{half};
+ghost use Rattle.xr_block.specs.Tree.{records_of};
+ghost use Rattle.xr_block.specs.TreeBlock.{entries_in};
 ghost use Rattle.xr_change.specs.Changes.{HasSpare};
 ghost use Rattle.xr_change.specs.Ways.{IsInTree, child_of, item_count, item_most};
 
 use crate::draft::Draft;
 use crate::rearrange::{merge_children, share_children};
 use crate::way::{child_block, way_of};
-use xr_blocks::Record;
-use xr_node::read::count_of;
+use xr_block::read::count_of;
+use xr_kinds::Record;
 
 /// How many items a block of a level may have.
 fn most_of<R: Record>(level: u32) -> usize

@@ -2,19 +2,19 @@
 ghost use Rattle.std.specs.Prelude.{◌≡◌, ◌+◌, ◌<◌, ◌≤◌, ◌⊎◌, length, slice_index_or, take, drop, true, false};
 ghost use Rattle.std.specs.List.{All};
 ghost use Rattle.std.specs.declared.cmp.Ordering.TheVariants.{Less};
-ghost use Rattle.xr_blocks.specs.Overlay.{block_at};
-ghost use Rattle.xr_blocks.specs.Rows.{named_below};
-ghost use Rattle.xr_blocks.specs.Tree.{records_of, tree_held};
-ghost use Rattle.xr_blocks.specs.TreeBlock.{Entry, entries_in};
+ghost use Rattle.xr_pool.specs.Overlay.{block_at};
+ghost use Rattle.xr_block.specs.Rows.{named_below};
+ghost use Rattle.xr_block.specs.Tree.{records_of, tree_held};
+ghost use Rattle.xr_block.specs.TreeBlock.{Entry, entries_in};
 ghost use Rattle.xr_change.specs.Ways.{IsInTree, IsKth, IsWay, item_count, way_place};
-ghost use Rattle.xr_lookup.specs.Cuts.{entry_is_before};
-ghost use Rattle.xr_lookup.specs.declared.cut.Cut.TheVariants.{Behind};
+ghost use Rattle.xr_block.specs.Bounds.{entry_is_before};
+ghost use Rattle.xr_block.specs.declared.bound.Cut.TheVariants.{Behind};
 
 use crate::draft::Draft;
-use xr_blocks::Record;
-use xr_lookup::cut::Cut;
-use xr_lookup::node::child_place;
-use xr_node::read::{child_at, low_key_at};
+use xr_block::bound::Cut;
+use xr_block::read::{child_at, low_key_at};
+use xr_block::search::child_place;
+use xr_kinds::Record;
 
 /// A child of a node, by its place and its block.
 #[derive(Clone, Copy)]

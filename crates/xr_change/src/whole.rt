@@ -1,9 +1,9 @@
 //! The changes of a tree of an overlay. Each is made in a draft, and its blocks have their checksums at its end.
 ghost use Rattle.std.specs.Prelude.{◌≡◌, ◌+◌, ◌*◌, ◌≤◌, length};
 ghost use Rattle.std.specs.List.{Contains};
-ghost use Rattle.xr_blocks.specs.Frame.{ChangesOnly};
-ghost use Rattle.xr_blocks.specs.Overlay.{changed_blocks, free_count};
-ghost use Rattle.xr_blocks.specs.Tree.{AreRecords, IsTreeIn, tree_blocks, tree_records};
+ghost use Rattle.xr_block.specs.Frame.{ChangesOnly};
+ghost use Rattle.xr_pool.specs.Overlay.{changed_blocks, free_count};
+ghost use Rattle.xr_block.specs.Tree.{AreRecords, IsTreeIn, tree_blocks, tree_records};
 ghost use Rattle.xr_change.specs.Sets.{inserted, removed, replaced};
 ghost use Rattle.xr_change.specs.Ways.{blocks_wanted};
 
@@ -11,7 +11,8 @@ use crate::cut::{remove_in, replace_in};
 use crate::draft::Draft;
 use crate::grow::insert_in;
 use crate::root::Root;
-use xr_blocks::{Overlay, Record};
+use xr_kinds::Record;
+use xr_pool::Overlay;
 
 /// Puts a record into a tree. Gives the root, which is a new block where the old one was full.
 pub fn insert<R: Record>(over: &mut Overlay, root: Root, r: &R) -> Root

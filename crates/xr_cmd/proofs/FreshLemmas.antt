@@ -5,15 +5,15 @@ use Rattle.std.proofs.lemmas.Bool.{cases_eq, cond-true, cond-false, eq-eqb, ne_e
 use Rattle.byteorder.specs.Endian.{big_number}
 use Rattle.xr_base.specs.Image.{block_of, part}
 use Rattle.xr_base.specs.ImageLaws.{image_of_blocks}
-use Rattle.xr_base.specs.declared.geometry.TheConstants.{BLOCK_BYTES, BLOCKS, FIRST_LOG_BLOCK, SECTOR_BYTES}
+use Rattle.xr_base.specs.declared.geometry.TheConstants.{BLOCK_BYTES, BLOCKS, FIRST_LOG_BLOCK, SECTOR_BYTES, UUID_BYTES, CYCLES}
 use Rattle.xr_disk.specs.Disk.{DiskView, OnlyReads}
 use Rattle.xr_disk.specs.Runs.{nothing_read, read_on}
 use Rattle.xr_headers.specs.FreshImage.{fresh_block_of, fresh_image}
-use Rattle.xr_headers.specs.declared.layout.TheConstants.{UUID_BYTES, CYCLES}
 use Rattle.xr_headers.specs.Headers.{super_block}
-use Rattle.xr_cmd.specs.Fresh.{HasFreshBlocks, IsFreshImage, IsFreshUpTo, IsFirstForeign, WasSeen, cycle_after}
+use Rattle.xr_cmd.specs.Fresh.{HasFreshBlocks, IsFreshImage, IsFreshUpTo, IsFirstForeign, cycle_after}
+use Rattle.xr_disk.specs.Seen.{WasSeen}
 use Rattle.xr_cmd.specs.Making.{IsLong}
-use Rattle.xr_headers.proofs.FreshLaws.{fresh_block_of-super, fresh_block_of-cycle, cycle_in-fresh, super_block-uuid}
+use Rattle.xr_headers.specs.FreshLaws.{fresh_block_of-super, fresh_block_of-cycle, cycle_in-fresh, super_block-uuid}
 
 -- what was read is a block of what was seen
 pub block_read : {T E : Type 0} (result : Result T E) (seen : Option (List ℕ)) (at n block : ℕ) (out : List ℕ) → at ≡ block * 8 → n ≡ BLOCK_BYTES

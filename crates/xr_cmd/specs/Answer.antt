@@ -11,9 +11,10 @@ use Rattle.xr_cmd.specs.declared.program.TheConstants.{FIRST_CYCLE}
 use Rattle.xr_cmd.specs.declared.words.Command.{Command}
 use Rattle.xr_cmd.specs.declared.words.Command.TheVariants.{Expect, Mkfs, Show, ShowLog}
 use Rattle.xr_cmd.specs.Expect.{Expects, IsTextOfPart}
-use Rattle.xr_cmd.specs.Failures.{WasLeft, HasFailure, number_of}
+use Rattle.xr_cmd.specs.Failures.{WasLeft, HasFailure, cause_number}
 use Rattle.xr_cmd.specs.ShowLog.{ShowsLog}
-use Rattle.xr_cmd.specs.Fresh.{IsFreshImage, WasSeen}
+use Rattle.xr_cmd.specs.Fresh.{IsFreshImage}
+use Rattle.xr_disk.specs.Seen.{WasSeen}
 use Rattle.xr_cmd.specs.RecordText.{words_text, bad_line_text, source_text, disk_text, foreign_text, memory_text, made_text}
 use Rattle.xr_cmd.specs.Streams.{PutsAll, PutsSomeFront}
 use Rattle.xr_cmd.specs.Words.{IsCommand, IsNoCommand}
@@ -48,7 +49,7 @@ Refuses (BadLine number) Line text = text ≡ bad_line_text number
 Refuses (BadLine number) Memory text = text ≡ memory_text
 Refuses SourceFailed Source text = text ≡ source_text
 Refuses DiskFailed Disk text = text ≡ disk_text
-Refuses (ForeignBlock block cause) Foreign text = text ≡ foreign_text block (number_of cause)
+Refuses (ForeignBlock block cause) Foreign text = text ≡ foreign_text block (cause_number cause)
 Refuses (ForeignBlock block cause) Memory text = text ≡ memory_text
 Refuses NoMemory Memory text = text ≡ memory_text
 Refuses _ _ text = ⊥

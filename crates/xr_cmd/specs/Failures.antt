@@ -15,21 +15,22 @@ use Rattle.xr_cmd.specs.declared.streams.ReadFault.{ReadFault}
 use Rattle.xr_cmd.specs.declared.streams.ReadFault.TheVariants as read
 use Rattle.xr_cmd.specs.declared.words.Command.{Command}
 use Rattle.xr_cmd.specs.declared.words.Command.TheVariants.{Expect, Mkfs, Show, ShowLog}
-use Rattle.xr_cmd.specs.Fresh.{IsFirstForeign, WasSeen}
+use Rattle.xr_cmd.specs.Fresh.{IsFirstForeign}
+use Rattle.xr_disk.specs.Seen.{WasSeen}
 use Rattle.xr_cmd.specs.Script.{IsFirstBadLine}
 
 -- the number of each rule, and the refusal of a log by it
-abbrev pub number_of : Cause → ℕ
-number_of Magic = 3
-number_of Version = 4
-number_of Length = 5
-number_of Checksum = 6
-number_of Place = 7
-number_of Operation = 8
-number_of ItemType = 9
-number_of Size = 10
-number_of Field = 11
-number_of Header = 12
+abbrev pub cause_number : Cause → ℕ
+cause_number Magic = 3
+cause_number Version = 4
+cause_number Length = 5
+cause_number Checksum = 6
+cause_number Place = 7
+cause_number Operation = 8
+cause_number ItemType = 9
+cause_number Size = 10
+cause_number Field = 11
+cause_number Header = 12
 
 abbrev pub scan_fault : Cause → ℕ → ScanFault
 scan_fault Magic block = scan.Magic block

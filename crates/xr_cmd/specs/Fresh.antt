@@ -2,8 +2,7 @@
 use Rattle.std.specs.Prelude.{◌≡◌, ℕ, ◌+◌, ◌<◌, ◌≤◌, ◌==◌, if◌then◌else◌, Option, Some, List, length, drop}
 use Rattle.byteorder.specs.Endian.{big_number}
 use Rattle.xr_base.specs.Image.{block_of}
-use Rattle.xr_base.specs.declared.geometry.TheConstants.{FIRST_LOG_BLOCK}
-use Rattle.xr_headers.specs.declared.layout.TheConstants.{UUID_BYTES, CYCLES}
+use Rattle.xr_base.specs.declared.geometry.TheConstants.{FIRST_LOG_BLOCK, UUID_BYTES, CYCLES}
 use Rattle.xr_headers.specs.FreshImage.{fresh_block_of, fresh_image}
 
 -- the blocks from `first` to below `end` are those of a fresh image
@@ -34,10 +33,6 @@ pub record IsFreshUpTo (image : List ℕ) (n : ℕ) : Type 0 where
 pub record IsFirstForeign (image : List ℕ) (n : ℕ) : Type 0 where
   pub before : IsFreshUpTo image n
   pub here : ¬ IsFreshUpTo image (n + 1)
-
--- what the disk read was an image with P, where it told
-abbrev pub WasSeen : Option (List ℕ) → (List ℕ → Type 0) → Type 0
-WasSeen seen P = (image : List ℕ) → seen ≡ Some image → P image
 
 -- the cycle after a block was read: only the log's first block tells it
 abbrev pub cycle_after : ℕ → List ℕ → ℕ → ℕ

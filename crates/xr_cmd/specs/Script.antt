@@ -41,7 +41,7 @@ IsPassedOver [] = Unit {0}
 IsPassedOver (byte ∷ bytes) = byte ≡ 35
 
 -- the line says nothing that a line may say
-pub record IsWrong (line : List ℕ) : Type 0 where
+pub record IsMeaningless (line : List ℕ) : Type 0 where
   pub not_passed_over : ¬ IsPassedOver line
   pub no_step : (step : Step) → ¬ LineGives line step
 
@@ -62,7 +62,7 @@ PassesBytes max_bytes bytes n = (max_bytes < length bytes) × (max_bytes < sum_b
 pub record IsBadWithin (max_lines max_bytes : ℕ) (bytes : List ℕ) (n : ℕ) : Type 0 where
   pub from_one : 0 < n
   pub there : n ≤ length (lines_of bytes)
-  pub why : (max_lines < n) ⊎ PassesBytes max_bytes bytes n ⊎ IsWrong (slice_index_or (lines_of bytes) (n - 1) [])
+  pub why : (max_lines < n) ⊎ PassesBytes max_bytes bytes n ⊎ IsMeaningless (slice_index_or (lines_of bytes) (n - 1) [])
 
 -- the line of this number is bad, and none before it is
 pub record IsFirstBadWithin (max_lines max_bytes : ℕ) (bytes : List ℕ) (n : ℕ) : Type 0 where
@@ -92,6 +92,6 @@ abbrev pub AreStepsOf : List ℕ → List Step → Type 0
 AreStepsOf bytes = AreStepsOfLines (lines_of bytes)
 
 -- the number is that of the first bad line, and want of memory has no cause in the script
-abbrev pub IsFaultOf : List ℕ → ScriptFault → Type 0
-IsFaultOf bytes (Line number) = IsFirstBadLine bytes number
-IsFaultOf bytes NoMemory = Unit {0}
+abbrev pub IsScriptFault : List ℕ → ScriptFault → Type 0
+IsScriptFault bytes (Line number) = IsFirstBadLine bytes number
+IsScriptFault bytes NoMemory = Unit {0}

@@ -7,7 +7,7 @@ use Rattle.std.proofs.lemmas.Bool.{cases_lt}
 use Rattle.std.proofs.lemmas.List.{get_or-take}
 use Rattle.std.proofs.lemmas.List.Sums.{sum_by-cons}
 use Rattle.xr_cmd.specs.declared.script.TheConstants.{MAX_LINES, MAX_BYTES}
-use Rattle.xr_cmd.specs.Script.{lines_of, size_of, IsWrong, IsBadWithin, IsFirstBadWithin, IsFirstBadLine, HasNoBadLine}
+use Rattle.xr_cmd.specs.Script.{lines_of, size_of, IsBadWithin, IsFirstBadWithin, IsFirstBadLine, HasNoBadLine, IsMeaningless}
 
 -- the lines of a front of some bytes, beside the lines of all of them: the last may go on
 data AreFrontLines : List (List ℕ) → List (List ℕ) → Type 0 where
@@ -69,7 +69,7 @@ module _ (max_lines max_bytes : ℕ) where
       record {
         from_one = bad.from_one;
         there = there;
-        why = ⊎_elim inl (λ why. inr (⊎_elim (λ passes. inl (more, rw same at passes.1)) (λ wrong. inr (subst (λ text. IsWrong text) line wrong)) why)) bad.why;
+        why = ⊎_elim inl (λ why. inr (⊎_elim (λ passes. inl (more, rw same at passes.1)) (λ wrong. inr (subst (λ text. IsMeaningless text) line wrong)) why)) bad.why;
       }
 
   -- where there is a byte past the limit, the last line is bad

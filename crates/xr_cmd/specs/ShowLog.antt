@@ -6,7 +6,7 @@ use Rattle.xr_commit.specs.declared.live_stream.Live.{Live}
 use Rattle.xr_commit.specs.LiveStream.{IsLiveStream}
 use Rattle.xr_commit.specs.LoggedItems.{AreItemsOfEach}
 use Rattle.xr_commit.specs.Pending.{pending}
-use Rattle.xr_cmd.specs.Fresh.{WasSeen}
+use Rattle.xr_disk.specs.Seen.{WasSeen}
 use Rattle.xr_cmd.specs.LogText.{log_text}
 
 -- the items of entries, one entry after another

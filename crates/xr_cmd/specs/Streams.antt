@@ -4,8 +4,8 @@ use Rattle.std.specs.Prelude.{◌≡◌, ◌⊎◌, ℕ, ◌<◌, ◌≤◌, Opt
 use Rattle.xr_disk.specs.Stream.{Took}
 
 -- the bytes are the first of those that were left, so many, or all that there were
-abbrev pub IsFront : Option (List ℕ) → ℕ → List ℕ → Type 0
-IsFront left most bytes = IfSome left (λ all. bytes ≡ take most all)
+abbrev pub IsTakenFront : Option (List ℕ) → ℕ → List ℕ → Type 0
+IsTakenFront left most bytes = IfSome left (λ all. bytes ≡ take most all)
 
 -- unless the source failed, no more than so many bytes were taken from it
 abbrev pub StaysWithin : Type 0 → ℕ → Option (List ℕ) → Option (List ℕ) → Type 0

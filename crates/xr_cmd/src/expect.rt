@@ -10,7 +10,7 @@ ghost use Rattle.xr_maps.specs.Steps.{Fits, maps_after};
 ghost use Rattle.xr_cmd.specs.Answer.{ExpectsOf};
 ghost use Rattle.xr_cmd.specs.Failures.{ExpectFails};
 ghost use Rattle.xr_cmd.specs.Expect.{AppendsLists, Expects, IsTextOfMaps, IsTextOfPart, files_text};
-ghost use Rattle.xr_cmd.specs.Script.{IsFaultOf};
+ghost use Rattle.xr_cmd.specs.Script.{IsScriptFault};
 ghost use Rattle.xr_cmd.specs.Streams.{StaysWithin};
 ghost use Rattle.xr_cmd.specs.RecordText.{owners_text, shared_text, free_text};
 
@@ -100,7 +100,7 @@ fn maps_of(alloc: Global, steps: &[Step]) -> Result<Maps, AllocError>
 /// The text of the records that a script leads to.
 pub fn records_text(alloc: Global, script: &[u8]) -> Result<String, ScriptFault>
     ensures text { IfOk result (λ text. Expects script.now (string_bytes text)) }
-    ensures fault { IfErr result (IsFaultOf script.now) }
+    ensures fault { IfErr result (IsScriptFault script.now) }
 {
     let steps = parse_steps(alloc, script)?;
     let maps = maps_of(alloc, &steps)?;

@@ -1,7 +1,7 @@
 //! Why a command has nothing to print but a line that says so.
 ghost use Rattle.std.specs.Prelude.{◌≡◌};
 ghost use Rattle.xr_cmd.specs.declared.failure.Failure.TheVariants.{DiskFailed, NoMemory};
-ghost use Rattle.xr_cmd.specs.Failures.{failure_of_read, failure_of_scan, failure_of_script, number_of};
+ghost use Rattle.xr_cmd.specs.Failures.{failure_of_read, failure_of_scan, failure_of_script, cause_number};
 
 use crate::script::ScriptFault;
 use crate::streams::ReadFault;
@@ -27,7 +27,7 @@ pub enum Cause {
 impl Cause {
     /// The number by which it is printed.
     pub fn number(self) -> u32
-        ensures { result ≡ number_of self }
+        ensures { result ≡ cause_number self }
     {
         match self {
             Cause::Magic => 3,

@@ -2,19 +2,17 @@
 ghost use Rattle.std.specs.Prelude.{◌≡◌, ◌*◌, ◌<◌, ◌≤◌, ◌↔◌, ℕ, Some, List, length, IsTrue, OnOk, IfOk, MatchOption};
 ghost use Rattle.xr_base.specs.Cause.{HasCause};
 ghost use Rattle.xr_base.specs.Image.{block_of};
-ghost use Rattle.xr_base.specs.declared.geometry.TheConstants.{BLOCK_BYTES, BLOCKS};
+ghost use Rattle.xr_base.specs.declared.geometry.TheConstants.{BLOCK_BYTES, BLOCKS, UUID_BYTES, CYCLES};
 ghost use Rattle.xr_disk.specs.Disk.{OnlyReads};
 ghost use Rattle.xr_headers.specs.FreshImage.{fresh_block_of};
-ghost use Rattle.xr_headers.specs.declared.layout.TheConstants.{CYCLES, UUID_BYTES};
-ghost use Rattle.xr_cmd.specs.Fresh.{IsFirstForeign, IsFreshImage, WasSeen, cycle_after as new_cycle};
+ghost use Rattle.xr_cmd.specs.Fresh.{IsFirstForeign, IsFreshImage, cycle_after as new_cycle};
+ghost use Rattle.xr_disk.specs.Seen.{WasSeen};
 
-use crate::making::BLOCK_SECTORS;
 use byteorder::{BigEndian, ByteOrder};
 use uuid::Uuid;
 use xr_base::Fault;
-use xr_base::geometry::{BLOCK_BYTES, BLOCKS, FIRST_LOG_BLOCK};
+use xr_base::geometry::{BLOCK_BYTES, BLOCK_SECTORS, BLOCKS, CYCLES, FIRST_LOG_BLOCK};
 use xr_disk::Disk;
-use xr_headers::layout::CYCLES;
 use xr_headers::{fresh_block, take_super};
 
 /// Reads one block.

@@ -2,21 +2,18 @@
 ghost use Rattle.std.specs.Prelude.{◌≡◌, ◌*◌, ◌<◌, ◌≤◌, ℕ, Some, List, length, OnOk};
 ghost use Rattle.xr_base.specs.Cause.{HasCause};
 ghost use Rattle.xr_base.specs.Image.{overlaid};
-ghost use Rattle.xr_base.specs.declared.geometry.TheConstants.{BLOCK_BYTES, BLOCKS};
+ghost use Rattle.xr_base.specs.declared.geometry.TheConstants.{BLOCK_BYTES, BLOCKS, CYCLES};
 ghost use Rattle.xr_disk.specs.Disk.{IsAtRest};
 ghost use Rattle.xr_headers.specs.FreshImage.{fresh_block_of, fresh_image};
-ghost use Rattle.xr_headers.specs.declared.layout.TheConstants.{CYCLES};
-ghost use Rattle.xr_cmd.specs.Fresh.{HasFreshBlocks, WasSeen};
+ghost use Rattle.xr_cmd.specs.Fresh.{HasFreshBlocks};
+ghost use Rattle.xr_disk.specs.Seen.{WasSeen};
 ghost use Rattle.xr_cmd.specs.Making.{IsLong, SeesAfter};
 
 use uuid::Uuid;
 use xr_base::Fault;
-use xr_base::geometry::{BLOCK_BYTES, BLOCKS, SECTOR_BYTES};
+use xr_base::geometry::{BLOCK_BYTES, BLOCK_SECTORS, BLOCKS, CYCLES, SECTOR_BYTES};
 use xr_disk::Disk;
 use xr_headers::fresh_block;
-
-/// Sectors of a block.
-pub(crate) const BLOCK_SECTORS: u32 = (BLOCK_BYTES / SECTOR_BYTES) as u32;
 
 /// Writes one block.
 fn write_block<D: Disk>(disk: &mut D, block: u32, bytes: &[u8]) -> Result<(), Fault>

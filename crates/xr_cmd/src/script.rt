@@ -3,7 +3,7 @@ ghost use Rattle.std.specs.Prelude.{◌≡◌, ◌↔◌, ◌==◌, codes, posit
 ghost use Rattle.std.specs.List.{before_first, after_first};
 ghost use Rattle.xr_maps.specs.declared.steps.Step.{Step};
 ghost use Rattle.xr_cmd.specs.declared.script.ScriptFault.TheVariants.{NoMemory};
-ghost use Rattle.xr_cmd.specs.Script.{LineGives, IsPassedOver, IsStepAfter, AreStepsOf, HasNoBadLine, IsFaultOf};
+ghost use Rattle.xr_cmd.specs.Script.{LineGives, IsPassedOver, IsStepAfter, AreStepsOf, HasNoBadLine, IsScriptFault};
 
 use crate::fields::{field, number};
 use std::alloc::{AllocError, AllocFailed, Global};
@@ -150,7 +150,7 @@ fn step_of(line: &[u8]) -> Option<Step>
 pub fn parse_steps(alloc: Global, bytes: &[u8]) -> Result<Vec<Step>, ScriptFault>
     ensures steps { IfOk result (λ steps. AreStepsOf bytes.now steps.items) }
     ensures sound { IfOk result (λ _. HasNoBadLine bytes.now) }
-    ensures first_bad { IfErr result (IsFaultOf bytes.now) }
+    ensures first_bad { IfErr result (IsScriptFault bytes.now) }
 {
     let mut steps = Vec::new(alloc);
     let mut rest = bytes;

@@ -3,7 +3,7 @@ ghost use Rattle.std.specs.Prelude.{◌≡◌, ◌<◌, ◌≤◌, [], length, v
 ghost use Rattle.xr_base.specs.Cause.{Rose, HasCause};
 ghost use Rattle.xr_disk.specs.Stream.{Took, TakesFront};
 ghost use Rattle.xr_cmd.specs.declared.streams.ReadFault.TheVariants.{Source, NoMemory};
-ghost use Rattle.xr_cmd.specs.Streams.{IsFront, StaysWithin, PutsAll, PutsSomeFront};
+ghost use Rattle.xr_cmd.specs.Streams.{StaysWithin, PutsAll, PutsSomeFront, IsTakenFront};
 
 use std::alloc::{AllocError, Global};
 use thiserror::Error;
@@ -64,7 +64,7 @@ pub fn read_front<S: Source>(
     source: &mut S,
     most: usize,
 ) -> Result<Vec<u8>, ReadFault>
-    ensures front { IfOk result (λ bytes. IsFront (S.left source.old) most bytes.items) }
+    ensures front { IfOk result (λ bytes. IsTakenFront (S.left source.old) most bytes.items) }
     ensures taken { IfOk result (λ bytes. Took (S.left source.old) (S.left source.new) bytes.items) }
     ensures bound { IfOk result (λ bytes. vec_len bytes ≤ most) }
     ensures limit { StaysWithin (Rose (S.faults source.old) (S.faults source.new)) most (S.left source.old) (S.left source.new) }

@@ -7,10 +7,10 @@ use Rattle.xr_record.specs.declared.unsealing.SealFault.{SealFault}
 use Rattle.xr_record.specs.Lsn.{lsn_number}
 use Rattle.xr_record.specs.Unsealing.{IsRefusal}
 use Rattle.xr_commit.specs.declared.layout.TheConstants.{RELOG_SECTORS}
-use Rattle.xr_commit.specs.LogRecords.{LogRecord, IsRecordAt, StandsAt, bytes_at, end_of}
+use Rattle.xr_commit.specs.LogRecords.{LogRecord, IsRecordAt, StandsAt, bytes_at, record_end}
 
 -- the record that another names as the one before it: it is older, and not older than the tail
-pub record IsBefore (uuid log : List ℕ) (tail : Lsn) (named_by : Head) (r : LogRecord) : Type 0 where
+pub record IsPreviousRecord (uuid log : List ℕ) (tail : Lsn) (named_by : Head) (r : LogRecord) : Type 0 where
   pub at : IsRecordAt uuid log named_by.prev r
   pub older : lsn_number r.head.lsn < lsn_number named_by.lsn
   pub within : lsn_number tail ≤ lsn_number r.head.lsn
@@ -18,7 +18,7 @@ pub record IsBefore (uuid log : List ℕ) (tail : Lsn) (named_by : Head) (r : Lo
 -- records in log order up to the newest, each of them named by the next one
 abbrev pub IsTrail : List ℕ → List ℕ → Lsn → LogRecord → LogRecord → List LogRecord → Type 0
 IsTrail uuid log tail newest oldest [] = oldest ≡ newest
-IsTrail uuid log tail newest oldest (next ∷ later) = IsBefore uuid log tail next.head oldest × IsTrail uuid log tail newest next later
+IsTrail uuid log tail newest oldest (next ∷ later) = IsPreviousRecord uuid log tail next.head oldest × IsTrail uuid log tail newest next later
 
 -- the live stream's records in log order: the trail from the head back to the record whose LSN is the head's tail
 pub record IsChain (uuid log : List ℕ) (head : LogRecord) (records : List LogRecord) : Type 0 where
@@ -49,15 +49,15 @@ pub record NamesAstray (uuid log : List ℕ) (tail : Lsn) (last : Head) : Type 0
   pub astray : (found.head.uuid ≢ uuid) ⊎ (lsn_number last.lsn ≤ lsn_number found.head.lsn) ⊎ (lsn_number found.head.lsn < lsn_number tail)
 
 -- a sector of the log lies in a record
-pub record Covers (head : Head) (sector : ℕ) : Type 0 where
+pub record LiesIn (head : Head) (sector : ℕ) : Type 0 where
   pub first : head.lsn.sector ≤ sector
-  pub last : sector < end_of head
+  pub last : sector < record_end head
 
 -- none of the sectors that follow the newest record, counted round the log, lies in this one
 abbrev pub IsClear : Head → Head → Type 0
-IsClear newest head = (i : ℕ) → i < RELOG_SECTORS → Covers head ((end_of newest + i) % LOG_SECTORS) → ⊥
+IsClear newest head = (i : ℕ) → i < RELOG_SECTORS → LiesIn head ((record_end newest + i) % LOG_SECTORS) → ⊥
 
 -- nor in any live record, so that the pending intents can always be logged anew before a record that is still needed is
 -- written over
-abbrev pub HasRoom : Head → List Head → Type 0
-HasRoom newest heads = All (IsClear newest) heads
+abbrev pub HasReserve : Head → List Head → Type 0
+HasReserve newest heads = All (IsClear newest) heads

@@ -3,14 +3,14 @@ use Rattle.std.specs.Prelude.{◌≡◌, ℕ, List}
 use Rattle.xr_record.specs.declared.head.Head.{Head}
 use Rattle.xr_record.specs.declared.head.Lsn.{Lsn}
 use Rattle.xr_commit.specs.declared.fault.ScanFault.{ScanFault}
-use Rattle.xr_commit.specs.Chain.{IsBefore, IsChain}
+use Rattle.xr_commit.specs.Chain.{IsChain, IsPreviousRecord}
 use Rattle.xr_commit.specs.LogRecords.{LogRecord, heads_of}
 use Rattle.xr_commit.specs.Refusals.{BreaksChain}
 
 -- the header of a record before another
 pub record IsHeaderBefore (uuid log : List ℕ) (tail : Lsn) (named_by head : Head) : Type 0 where
   pub body : List ℕ
-  pub before : IsBefore uuid log tail named_by (record { head = head; body = body })
+  pub before : IsPreviousRecord uuid log tail named_by (record { head = head; body = body })
 
 -- the headers of the chain's records
 pub record AreOfChain (uuid log : List ℕ) (newest : LogRecord) (heads : List Head) : Type 0 where

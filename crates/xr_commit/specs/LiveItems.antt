@@ -7,7 +7,7 @@ use Rattle.xr_items.specs.declared.item.Item.{Item}
 use Rattle.xr_items.specs.declared.item.Item.TheVariants.{Buf, Inode, Begin, Done}
 use Rattle.xr_items.specs.declared.item.ItemFault.{ItemFault}
 use Rattle.xr_items.specs.declared.item.ItemFault.TheVariants as of_item
-use Rattle.xr_items.specs.FirstBroken.{Refuses}
+use Rattle.xr_items.specs.FirstBroken.{RefusesItem}
 use Rattle.xr_items.specs.Items.{following, item_bytes}
 use Rattle.xr_items.specs.Valid.{IsItem}
 use Rattle.xr_record.specs.declared.entry.Entry.{Entry}
@@ -83,7 +83,7 @@ breach_of (of_item.Field place) = Field
 -- The next region is bad: it is no item, or an intent whose id doesn't rise,
 abbrev pub IsBadItem : ℕ → List ℕ → Breach → Type 0
 IsBadItem last bytes breach =
-    ((fault : ItemFault) × Refuses bytes fault × (breach ≡ breach_of fault))
+    ((fault : ItemFault) × RefusesItem bytes fault × (breach ≡ breach_of fault))
     ⊎ ((item : Item) × IsItem item × (bytes ≡ item_bytes item) × (Rises last item → ⊥) × (breach ≡ Field))
 
 -- or it follows an item and has another length than it has to have, or is no core of that file

@@ -3,7 +3,7 @@ use Rattle.std.specs.Prelude.{◌≡◌, ℕ, List, All}
 use Rattle.xr_record.specs.declared.head.Head.{Head}
 use Rattle.xr_record.specs.declared.entry.Entry.{Entry}
 use Rattle.xr_commit.specs.declared.live_stream.Live.{Live}
-use Rattle.xr_commit.specs.Chain.{HasRoom, IsChain}
+use Rattle.xr_commit.specs.Chain.{IsChain, HasReserve}
 use Rattle.xr_commit.specs.LogRecords.{HasSuper, IsHead, LogRecord, heads_of, log_of}
 use Rattle.xr_commit.specs.Entries.{HasEntries}
 use Rattle.xr_commit.specs.LiveItems.{HaveGood}
@@ -15,7 +15,7 @@ pub record IsLiveIn (uuid log : List ℕ) (heads : List Head) (entries : List En
   pub newest : IsHead uuid log head
   pub records : List LogRecord
   pub chain : IsChain uuid log head records
-  pub room : HasRoom head.head (heads_of records)
+  pub room : HasReserve head.head (heads_of records)
   pub unmounts : All KeepsUnmounts records
   pub heads_are : heads ≡ heads_of records
   pub entries_are : HasEntries records entries

@@ -1,13 +1,12 @@
 -- The records that stand in the log, and which of them is the head.
 use Rattle.std.specs.Prelude.{◌≡◌, ℕ, ◌+◌, ◌*◌, ◌/◌, ◌<◌, ◌≤◌, ◌⊎◌, List, All, length, map, Option, Some, None}
 use Rattle.xr_base.specs.Image.{block_of, part}
-use Rattle.xr_base.specs.declared.geometry.TheConstants.{BLOCK_BYTES, FIRST_LOG_BLOCK, SECTOR_BYTES}
+use Rattle.xr_base.specs.declared.geometry.TheConstants.{BLOCK_BYTES, FIRST_LOG_BLOCK, SECTOR_BYTES, UUID_BYTES, BLOCK_SECTORS}
 use Rattle.xr_headers.specs.Headers.{super_block}
-use Rattle.xr_headers.specs.declared.layout.TheConstants.{UUID_BYTES}
 use Rattle.xr_record.specs.declared.head.Head.{Head}
 use Rattle.xr_record.specs.Lsn.{lsn_number}
 use Rattle.xr_record.specs.Record.{IsSealed, sectors_of}
-use Rattle.xr_commit.specs.declared.layout.TheConstants.{BLOCK_SECTORS, LOG_BYTES, MOST_RECORD_BYTES}
+use Rattle.xr_commit.specs.declared.layout.TheConstants.{LOG_BYTES, MOST_RECORD_BYTES}
 
 -- the image begins with the superblock of this identifier
 pub record HasSuper (image uuid : List ℕ) : Type 0 where
@@ -24,8 +23,8 @@ abbrev pub bytes_at : List ℕ → ℕ → List ℕ
 bytes_at log sector = part (SECTOR_BYTES * sector) MOST_RECORD_BYTES log
 
 -- the image block that holds a sector of the log
-abbrev pub block_at : ℕ → ℕ
-block_at sector = FIRST_LOG_BLOCK + sector / BLOCK_SECTORS
+abbrev pub log_block_of : ℕ → ℕ
+log_block_of sector = FIRST_LOG_BLOCK + sector / BLOCK_SECTORS
 
 -- a record: its header, and its body with the first word of each sector put back
 pub record LogRecord : Type 0 where
@@ -52,12 +51,12 @@ pub record IsHead (uuid log : List ℕ) (r : LogRecord) : Type 0 where
   pub newest : (sector : ℕ) (other : LogRecord) → IsRecordAt uuid log sector other → lsn_number other.head.lsn ≤ lsn_number r.head.lsn
 
 -- the sector after a record's last one
-abbrev pub end_of : Head → ℕ
-end_of head = head.lsn.sector + 1 + sectors_of head.len
+abbrev pub record_end : Head → ℕ
+record_end head = head.lsn.sector + 1 + sectors_of head.len
 
 -- the block in which a record begins
 abbrev pub home_of : Head → ℕ
-home_of head = block_at head.lsn.sector
+home_of head = log_block_of head.lsn.sector
 
 -- of a record its header alone
 abbrev pub heads_of : List LogRecord → List Head
@@ -76,8 +75,8 @@ pub record AreIn (log : List ℕ) (heads : List Head) (records : List LogRecord)
   pub each : All (λ (r : LogRecord). StandsAt log r.head.lsn.sector r) records
   pub heads_are : heads ≡ heads_of records
 
-abbrev pub HasRecords : List ℕ → List Head → Type 0
-HasRecords log heads = (records : List LogRecord) × AreIn log heads records
+abbrev pub AreHeadersOf : List ℕ → List Head → Type 0
+AreHeadersOf log heads = (records : List LogRecord) × AreIn log heads records
 
 -- the newer of two records, where there are any
 abbrev pub IsNewer : Option Head → Option Head → Option Head → Type 0

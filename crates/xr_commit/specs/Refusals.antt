@@ -11,26 +11,26 @@ use Rattle.xr_record.specs.Rules.{IsBad, IsStream}
 use Rattle.xr_record.specs.Stream.{Piece, Open}
 use Rattle.xr_commit.specs.declared.fault.ScanFault.{ScanFault}
 use Rattle.xr_commit.specs.declared.fault.ScanFault.TheVariants.{Magic, Version, Length, Checksum, Place, Operation, Header, DiskFault, NoMemory}
-use Rattle.xr_commit.specs.Chain.{HasRoom, IsChain, IsLost, NamesAstray, NamesNoRecord, NamesNoSector}
+use Rattle.xr_commit.specs.Chain.{IsChain, IsLost, NamesAstray, NamesNoRecord, NamesNoSector, HasReserve}
 use Rattle.xr_commit.specs.Entries.{joined_bodies}
 use Rattle.xr_commit.specs.LiveItems.{BreaksItems}
-use Rattle.xr_commit.specs.LogRecords.{HasNoRecord, HasSuper, IsHead, LogRecord, block_at, heads_of, home_of, log_of}
+use Rattle.xr_commit.specs.LogRecords.{HasNoRecord, HasSuper, IsHead, LogRecord, heads_of, home_of, log_of, log_block_of}
 use Rattle.xr_commit.specs.Operations.{HoldsOperations, KeepsUnmounts}
 
 -- what isn't a record, with the block where it would begin
 abbrev pub fault_of : SealFault → ScanFault
-fault_of (seal.Magic sector) = Magic (block_at sector)
-fault_of (seal.Version sector) = Version (block_at sector)
-fault_of (seal.Length sector) = Length (block_at sector)
-fault_of (seal.Checksum sector) = Checksum (block_at sector)
-fault_of (seal.Place sector) = Place (block_at sector)
+fault_of (seal.Magic sector) = Magic (log_block_of sector)
+fault_of (seal.Version sector) = Version (log_block_of sector)
+fault_of (seal.Length sector) = Length (log_block_of sector)
+fault_of (seal.Checksum sector) = Checksum (log_block_of sector)
+fault_of (seal.Place sector) = Place (log_block_of sector)
 
 -- the last record of the trail names none that may be followed
 abbrev pub LeadsNowhere : List ℕ → List ℕ → Head → Head → ScanFault → Type 0
 LeadsNowhere uuid log head last fault =
     (NamesNoSector last × (fault ≡ Place (home_of last)))
     ⊎ ((broken : SealFault) × NamesNoRecord log last broken × (fault ≡ fault_of broken))
-    ⊎ (NamesAstray uuid log head.tail last × (fault ≡ Place (block_at last.prev)))
+    ⊎ (NamesAstray uuid log head.tail last × (fault ≡ Place (log_block_of last.prev)))
 
 pub record BreaksChain (uuid log : List ℕ) (head : LogRecord) (fault : ScanFault) : Type 0 where
   pub last : LogRecord
@@ -76,7 +76,7 @@ RefusesBodies uuid records fault =
 
 abbrev pub RefusesRecords : List ℕ → Head → List LogRecord → ScanFault → Type 0
 RefusesRecords uuid head records fault =
-    ((HasRoom head (heads_of records) → ⊥) × (fault ≡ Length (home_of head))) ⊎ (HasRoom head (heads_of records) × RefusesBodies uuid records fault)
+    ((HasReserve head (heads_of records) → ⊥) × (fault ≡ Length (home_of head))) ⊎ (HasReserve head (heads_of records) × RefusesBodies uuid records fault)
 
 abbrev pub RefusesHead : List ℕ → List ℕ → LogRecord → ScanFault → Type 0
 RefusesHead uuid log head fault =

@@ -4,10 +4,6 @@ use Rattle.xr_base.specs.Cause.{Rose}
 use Rattle.xr_commit.specs.declared.fault.ScanFault.{ScanFault}
 use Rattle.xr_commit.specs.declared.fault.ScanFault.TheVariants.{DiskFault}
 
--- what the disk read was an image with P, where it told
-abbrev pub WasSeen : Option (List ℕ) → (List ℕ → Type 0) → Type 0
-WasSeen seen P = (image : List ℕ) → seen ≡ Some image → P image
-
 -- A fault of the disk rose in this call, and is told with the disk's count. The other refusals are not the disk's.
 abbrev pub WasCounted : ℕ → ℕ → ScanFault → Type 0
 WasCounted before after (DiskFault faults) = Rose before after × (faults ≡ after)

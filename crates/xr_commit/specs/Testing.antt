@@ -26,9 +26,9 @@ pub record IsNextBad (uuid : List ℕ) (last : ℕ) (regions : List (List ℕ)) 
       ⊎ ((item : Item) × (regions ≡ item_bytes item ∷ region ∷ more) × (n ≡ 1) × IsBadlyFollowed uuid last item region breach)
 
 -- the regions of a transaction part into items, by the numbers of regions that they name
-abbrev pub IsParted : Entry → Type 0
-IsParted (Trans tid regions) = are_items regions ≡ true
-IsParted Unmount = Unit {0}
+abbrev pub HasWholeItems : Entry → Type 0
+HasWholeItems (Trans tid regions) = are_items regions ≡ true
+HasWholeItems Unmount = Unit {0}
 
 abbrev pub IsBadEntry : List ℕ → ℕ → Entry → ℕ → Breach → Type 0
 IsBadEntry uuid last (Trans tid regions) n breach = IsBadRegion uuid last regions n breach

@@ -9,20 +9,20 @@ use Rattle.xr_commit.specs.Operations.{HoldsOperations}
 use Rattle.xr_commit.specs.Refusals.{IsWrongAfter}
 
 -- a record in the log has this header
-pub record IsIn (log : List ℕ) (head : Head) (r : LogRecord) : Type 0 where
+pub record IsInLog (log : List ℕ) (head : Head) (r : LogRecord) : Type 0 where
   pub stands : StandsAt log head.lsn.sector r
   pub head_is : r.head ≡ head
 
 -- these records were read: each is whole operations, and the reader has these entries of them
-pub record HasRead (records : List LogRecord) (entries : List Entry) (reader : Reading) : Type 0 where
+pub record HaveBeenRead (records : List LogRecord) (entries : List Entry) (reader : Reading) : Type 0 where
   pub each : All HoldsOperations records
   pub reads : Reads (joined_bodies records) entries reader
 
 -- whatever was read before, with this record it is read on
 abbrev pub ReadsRecord : LogRecord → Reading → List Entry → Reading → List Entry → Type 0
 ReadsRecord r old old_entries new new_entries =
-    (before : List LogRecord) → HasRead before old_entries old → HasRead (before ++ r ∷ []) new_entries new
+    (before : List LogRecord) → HaveBeenRead before old_entries old → HaveBeenRead (before ++ r ∷ []) new_entries new
 
 -- or this record is the first one that is wrong
 abbrev pub IsWrongRecord : LogRecord → Reading → List Entry → Type 0
-IsWrongRecord r old old_entries = (before : List LogRecord) → HasRead before old_entries old → IsWrongAfter before r
+IsWrongRecord r old old_entries = (before : List LogRecord) → HaveBeenRead before old_entries old → IsWrongAfter before r

@@ -4,7 +4,7 @@ ghost use Rattle.xr_commit.specs.Following.{HasChain, HasNoChain, IsHeaderBefore
 ghost use Rattle.xr_commit.specs.LogRecords.{IsNewest};
 ghost use Rattle.xr_commit.specs.Refusals.{LeadsNowhere, OrNoMemory};
 
-use crate::fault::{ScanFault, block_at};
+use crate::fault::{ScanFault, log_block_of};
 use crate::layout::{LOG_BYTES, MOST_RECORD_BYTES};
 use crate::opening::open_at;
 use std::alloc::Global;
@@ -27,14 +27,14 @@ fn step_back(
 {
     if last.prev >= LOG_SECTORS {
         return Err(ScanFault::Place {
-            block: block_at(last.lsn.sector),
+            block: log_block_of(last.lsn.sector),
         });
     }
     let found = open_at(log, last.prev, room)?;
     let lsn = found.lsn.number();
     if found.uuid != *uuid || lsn >= last.lsn.number() || lsn < head.tail.number() {
         return Err(ScanFault::Place {
-            block: block_at(last.prev),
+            block: log_block_of(last.prev),
         });
     }
     Ok(found)

@@ -1,13 +1,12 @@
 //! Why the live stream of an image can't be had.
 ghost use Rattle.std.specs.Prelude.{◌≡◌};
 ghost use Rattle.xr_commit.specs.declared.fault.ScanFault.TheVariants.{NoMemory};
-ghost use Rattle.xr_commit.specs.LogRecords.{block_at};
+ghost use Rattle.xr_commit.specs.LogRecords.{log_block_of};
 ghost use Rattle.xr_commit.specs.Refusals.{fault_of};
 
-use crate::layout::BLOCK_SECTORS;
 use std::alloc::{AllocError, AllocFailed};
 use thiserror::Error;
-use xr_base::geometry::FIRST_LOG_BLOCK;
+use xr_base::geometry::{BLOCK_SECTORS, FIRST_LOG_BLOCK};
 use xr_record::SealFault;
 
 /// Why the live stream of an image can't be had, with the image block where the cause stands.
@@ -54,8 +53,8 @@ pub enum ScanFault {
 }
 
 /// The image block that holds a sector of the log.
-pub fn block_at(sector: u32) -> u32
-    ensures { result ≡ block_at sector }
+pub fn log_block_of(sector: u32) -> u32
+    ensures { result ≡ log_block_of sector }
 {
     FIRST_LOG_BLOCK + sector / BLOCK_SECTORS
 }
@@ -66,19 +65,19 @@ impl From<SealFault> for ScanFault {
     fn from(broken: SealFault) -> ScanFault {
         match broken {
             SealFault::Magic { sector } => ScanFault::Magic {
-                block: block_at(sector),
+                block: log_block_of(sector),
             },
             SealFault::Version { sector } => ScanFault::Version {
-                block: block_at(sector),
+                block: log_block_of(sector),
             },
             SealFault::Length { sector } => ScanFault::Length {
-                block: block_at(sector),
+                block: log_block_of(sector),
             },
             SealFault::Checksum { sector } => ScanFault::Checksum {
-                block: block_at(sector),
+                block: log_block_of(sector),
             },
             SealFault::Place { sector } => ScanFault::Place {
-                block: block_at(sector),
+                block: log_block_of(sector),
             },
         }
     }

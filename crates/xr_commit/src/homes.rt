@@ -1,12 +1,13 @@
 //! The record in which a region of the stream begins.
 ghost use Rattle.std.specs.Prelude.{◌≡◌, ◌≤◌, ◌<◌, ◌+◌, ◌^◌, ℕ, false, List, Some, length, if◌then◌else◌};
 ghost use Rattle.xr_commit.specs.LiveItems.{begins_region, home_of_region, is_start, regions_begun, started_after};
-ghost use Rattle.xr_commit.specs.LogRecords.{AreIn, HasRecords, LogRecord};
+ghost use Rattle.xr_commit.specs.LogRecords.{AreIn, LogRecord, AreHeadersOf};
 ghost use Rattle.xr_commit.specs.Operations.{headers_of};
-ghost use Rattle.xr_record.specs.declared.layout.TheConstants.{MOST_BODY_BYTES, OPERATION_BYTES};
+ghost use Rattle.xr_record.specs.declared.layout.TheConstants.{OPERATION_BYTES};
+ghost use Rattle.xr_base.specs.declared.layout.TheConstants.{MAX_BODY_BYTES};
 ghost use Rattle.xr_record.specs.Operations.{fields};
 
-use crate::fault::block_at;
+use crate::fault::log_block_of;
 use crate::layout::{LOG_BYTES, MOST_RECORD_BYTES};
 use crate::operations::operation_len;
 use crate::stream::body_at;
@@ -41,7 +42,7 @@ fn begun_on(begun: Begun, header: &[u8]) -> Begun
 
 /// Counts the regions that begin in a body, where `started` says that a START stands right before it.
 fn begun_in(body: &[u8], started: bool) -> Begun
-    requires { length body.now ≤ MOST_BODY_BYTES }
+    requires { length body.now ≤ MAX_BODY_BYTES }
     ensures regions { result.regions ≡ regions_begun started (headers_of body.now) }
     ensures started { result.started ≡ started_after started (headers_of body.now) }
 {
@@ -62,7 +63,7 @@ fn begun_in(body: &[u8], started: bool) -> Begun
 pub fn block_of_region(log: &[u8], heads: &[Head], region: u128, room: &mut [u8]) -> u32
     requires log { length log.now ≡ LOG_BYTES }
     requires room { length room.old ≡ MOST_RECORD_BYTES }
-    requires records { HasRecords log.now heads.now }
+    requires records { AreHeadersOf log.now heads.now }
     requires begins { (records : List LogRecord) → AreIn log.now heads.now records → (block : ℕ) × (home_of_region false records region ≡ Some block) }
     ensures { (records : List LogRecord) → AreIn log.now heads.now records → home_of_region false records region ≡ Some result }
 {
@@ -71,7 +72,7 @@ pub fn block_of_region(log: &[u8], heads: &[Head], region: u128, room: &mut [u8]
     for head in heads {
         let begun = begun_in(body_at(log, head, room), started);
         if left < begun.regions as u128 {
-            return block_at(head.lsn.sector);
+            return log_block_of(head.lsn.sector);
         }
         left -= begun.regions as u128;
         started = begun.started;

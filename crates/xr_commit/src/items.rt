@@ -1,16 +1,16 @@
 //! The items of the live stream, tested in log order once all operations are right.
 ghost use Rattle.std.specs.Prelude.{◌≡◌, ◌+◌, ◌^◌, ◌<◌, ◌≤◌, ◌↔◌, ℕ, List, [], ◌∷◌, true, IsTrue, IfOk, IfErr, OnOk, MatchResult, length, drop};
 ghost use Rattle.xr_base.specs.declared.geometry.TheConstants.{BLOCK_BYTES, FILES, FIRST_INODE};
-ghost use Rattle.xr_headers.specs.Sealed.{padded};
+ghost use Rattle.xr_headers.specs.Padded.{zero_padded};
 ghost use Rattle.xr_headers.specs.declared.layout.TheConstants.{CORE_BYTES};
 ghost use Rattle.xr_items.specs.Items.{following, item_bytes};
 ghost use Rattle.xr_items.specs.Valid.{IsItem};
 ghost use Rattle.xr_record.specs.Stream.{are_items};
 ghost use Rattle.xr_commit.specs.Entries.{HasEntries};
 ghost use Rattle.xr_commit.specs.ItemsOf.{region_count};
-ghost use Rattle.xr_commit.specs.LogRecords.{AreIn, HasRecords, LogRecord};
+ghost use Rattle.xr_commit.specs.LogRecords.{AreIn, LogRecord, AreHeadersOf};
 ghost use Rattle.xr_commit.specs.LiveItems.{BreaksItems, HasGood, HaveGood, IsBadFollower, IsBadItem, IsBadRegion, IsCoreOf, IsFollowed, Rises, breach_of, fault_at, last_after, regions_in};
-ghost use Rattle.xr_commit.specs.Testing.{IsBadEntry, IsNextBad, IsNextGood, IsParted};
+ghost use Rattle.xr_commit.specs.Testing.{IsBadEntry, IsNextBad, IsNextGood, HasWholeItems};
 
 use crate::fault::ScanFault;
 use crate::homes::block_of_region;
@@ -69,7 +69,7 @@ struct BadRegion {
 /// The block in which a core would stand, with zeros behind it.
 fn core_block(core: &[u8]) -> [u8; BLOCK_BYTES]
     requires { length core.now ≡ CORE_BYTES }
-    ensures { result ≡ padded BLOCK_BYTES core.now }
+    ensures { result ≡ zero_padded BLOCK_BYTES core.now }
 {
     let mut block = [0; BLOCK_BYTES];
     block[..CORE_BYTES].copy_from_slice(core);
@@ -173,7 +173,7 @@ fn test_regions(uuid: &Uuid, regions: &Regions, last: u64) -> Result<u64, BadReg
 
 /// Tests the items of an entry, and gives the id of the last intent.
 fn test_entry(uuid: &Uuid, entry: &Entry, last: u64) -> Result<u64, BadRegion>
-    requires { IsParted entry.now }
+    requires { HasWholeItems entry.now }
     ensures good { IfOk result (HaveGood uuid.now last (entry.now ∷ [])) }
     ensures bad { IfErr result (λ bad. IsBadEntry uuid.now last entry.now bad.region bad.breach) }
 {
@@ -211,7 +211,7 @@ pub fn test_items(
 ) -> Result<(), ScanFault>
     requires log { length log.now ≡ LOG_BYTES }
     requires room { length room.old ≡ MOST_RECORD_BYTES }
-    requires records { HasRecords log.now heads.now }
+    requires records { AreHeadersOf log.now heads.now }
     requires said { (records : List LogRecord) → AreIn log.now heads.now records → HasEntries records entries.now }
     ensures good { OnOk result ((last : ℕ) × HaveGood uuid.now 0 entries.now last) }
     ensures bad { IfErr result (λ fault. (records : List LogRecord) → AreIn log.now heads.now records → BreaksItems uuid.now records fault) }

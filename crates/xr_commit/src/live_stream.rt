@@ -4,7 +4,7 @@ ghost use Rattle.xr_commit.specs.LiveStream.{IsLiveIn};
 ghost use Rattle.xr_commit.specs.Refusals.{OrNoMemory, RefusesLog};
 
 use crate::chain::follow;
-use crate::fault::{ScanFault, block_at};
+use crate::fault::{ScanFault, log_block_of};
 use crate::head::find_head;
 use crate::items::test_items;
 use crate::layout::{LOG_BYTES, MOST_RECORD_BYTES};
@@ -42,7 +42,7 @@ pub fn live_in(alloc: Global, uuid: Uuid, log: &[u8]) -> Result<Live, ScanFault>
     let heads = follow(alloc, &uuid, log, &head, &mut room)?;
     if !has_room(&head, &heads) {
         return Err(ScanFault::Length {
-            block: block_at(head.lsn.sector),
+            block: log_block_of(head.lsn.sector),
         });
     }
     test_unmounts(log, &heads, &mut room)?;

@@ -3,20 +3,15 @@ ghost use Rattle.std.specs.Prelude.{◌≡◌, ◌+◌, ◌≤◌, ◌<◌, ℕ,
 ghost use Rattle.xr_base.specs.Image.{part};
 ghost use Rattle.xr_base.specs.declared.geometry.TheConstants.{LOG_SECTORS, SECTOR_BYTES};
 ghost use Rattle.xr_commit.specs.LogRecords.{LogRecord, StandsAt, bytes_at};
-ghost use Rattle.xr_record.specs.Unsealing.{IsRefusal, word_at};
+ghost use Rattle.xr_record.specs.Unsealing.{IsRefusal};
+ghost use Rattle.xr_base.specs.Fields.{be32_at};
 
 use crate::layout::{LOG_BYTES, MOST_RECORD_BYTES};
 use byteorder::{BigEndian, ByteOrder};
+use xr_base::be32_at;
 use xr_base::geometry::SECTOR_BYTES;
-use xr_record::layout::MAGIC;
+use xr_base::layout::RECORD_MAGIC;
 use xr_record::{Head, SealFault, unseal};
-
-fn word_at(bytes: &[u8], place: usize) -> u32
-    requires { place + 4 ≤ length bytes.now }
-    ensures { result ≡ word_at place bytes.now }
-{
-    BigEndian::read_u32(&bytes[place..])
-}
 
 /// The header of the record that stands at a sector of the log. Its body is then in `room`, behind one sector. Only where
 /// a record's magic stands are the bytes copied there.
@@ -29,7 +24,7 @@ pub fn open_at(log: &[u8], sector: u32, room: &mut [u8]) -> Result<Head, SealFau
     ensures refused { IfErr result (IsRefusal sector (bytes_at log.now sector)) }
 {
     let from = SECTOR_BYTES * sector as usize;
-    if word_at(log, from) != MAGIC {
+    if be32_at(log, from) != RECORD_MAGIC {
         return Err(SealFault::Magic { sector });
     }
     let n = MOST_RECORD_BYTES.min(LOG_BYTES - from);

@@ -2,7 +2,8 @@
 ghost use Rattle.std.specs.Prelude.{◌≡◌, ◌≤◌, ◌<◌, ◌^◌, length, sum_by};
 ghost use Rattle.std.specs.List.{list_any};
 ghost use Rattle.xr_commit.specs.Operations.{headers_of, is_unmount, operation_len};
-ghost use Rattle.xr_record.specs.declared.layout.TheConstants.{MOST_BODY_BYTES, OPERATION_BYTES};
+ghost use Rattle.xr_record.specs.declared.layout.TheConstants.{OPERATION_BYTES};
+ghost use Rattle.xr_base.specs.declared.layout.TheConstants.{MAX_BODY_BYTES};
 ghost use Rattle.xr_record.specs.Operations.{fields};
 
 use byteorder::{BigEndian, ByteOrder};
@@ -38,7 +39,7 @@ pub fn operation_len(header: &[u8]) -> usize
 
 /// Goes from header to header through a body.
 pub fn sum_up(body: &[u8]) -> Summary
-    requires { length body.now ≤ MOST_BODY_BYTES }
+    requires { length body.now ≤ MAX_BODY_BYTES }
     ensures operations { result.operations ≡ length (headers_of body.now) }
     ensures bytes { result.bytes ≡ sum_by operation_len (headers_of body.now) }
     ensures unmounts { result.unmounts ≡ list_any is_unmount (headers_of body.now) }

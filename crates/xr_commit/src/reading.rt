@@ -7,14 +7,15 @@ ghost use Rattle.xr_disk.specs.Disk.{OnlyReads};
 ghost use Rattle.xr_commit.specs.declared.fault.ScanFault.TheVariants.{DiskFault};
 ghost use Rattle.xr_commit.specs.LogRecords.{HasSuper, log_of};
 ghost use Rattle.xr_commit.specs.Refusals.{OrOutside, RefusesImage};
-ghost use Rattle.xr_commit.specs.Seen.{WasCounted, WasSeen};
+ghost use Rattle.xr_commit.specs.Seen.{WasCounted};
+ghost use Rattle.xr_disk.specs.Seen.{WasSeen};
 
 use crate::fault::ScanFault;
-use crate::layout::{BLOCK_SECTORS, LOG_BYTES};
+use crate::layout::LOG_BYTES;
 use std::alloc::Global;
 use uuid::Uuid;
 use xr_base::Fault;
-use xr_base::geometry::{BLOCK_BYTES, FIRST_LOG_BLOCK};
+use xr_base::geometry::{BLOCK_BYTES, BLOCK_SECTORS, FIRST_LOG_BLOCK};
 use xr_disk::Disk;
 use xr_headers::take_super;
 

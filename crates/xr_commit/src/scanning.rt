@@ -4,7 +4,8 @@ ghost use Rattle.xr_disk.specs.Disk.{OnlyReads};
 ghost use Rattle.xr_commit.specs.ItemsOf.{HaveItems};
 ghost use Rattle.xr_commit.specs.LiveStream.{IsLiveStream};
 ghost use Rattle.xr_commit.specs.Refusals.{OrOutside, RefusesImage};
-ghost use Rattle.xr_commit.specs.Seen.{WasCounted, WasSeen};
+ghost use Rattle.xr_commit.specs.Seen.{WasCounted};
+ghost use Rattle.xr_disk.specs.Seen.{WasSeen};
 
 use crate::fault::ScanFault;
 use crate::live_stream::{Live, live_in};

@@ -3,15 +3,15 @@ ghost use Rattle.std.specs.Prelude.{◌≡◌, ◌≤◌, ℕ, List, All, IfOk, 
 ghost use Rattle.xr_base.specs.Image.{part};
 ghost use Rattle.xr_base.specs.declared.geometry.TheConstants.{SECTOR_BYTES};
 ghost use Rattle.xr_commit.specs.Entries.{HasEntries};
-ghost use Rattle.xr_commit.specs.LogRecords.{AreIn, HasRecords, LogRecord, home_of};
+ghost use Rattle.xr_commit.specs.LogRecords.{AreIn, LogRecord, home_of, AreHeadersOf};
 ghost use Rattle.xr_commit.specs.Operations.{KeepsUnmounts};
 ghost use Rattle.xr_commit.specs.Refusals.{BreaksOperations, BreaksUnmounts, OrNoMemory};
-ghost use Rattle.xr_commit.specs.Walking.{IsIn, IsWrongRecord, ReadsRecord};
+ghost use Rattle.xr_commit.specs.Walking.{IsWrongRecord, ReadsRecord, IsInLog};
 ghost use Rattle.xr_commit.specs.declared.fault.ScanFault.TheVariants.{Operation, Place};
 ghost use Rattle.xr_record.specs.declared.head.Head.{Head};
-ghost use Rattle.xr_record.specs.declared.layout.TheConstants.{MOST_BODY_BYTES};
+ghost use Rattle.xr_base.specs.declared.layout.TheConstants.{MAX_BODY_BYTES};
 
-use crate::fault::{ScanFault, block_at};
+use crate::fault::{ScanFault, log_block_of};
 use crate::layout::{LOG_BYTES, MOST_RECORD_BYTES};
 use crate::opening::open_at;
 use crate::operations::sum_up;
@@ -23,8 +23,8 @@ use xr_record::{Entry, FeedFault, Head, Reader};
 pub fn body_at<'a>(log: &[u8], head: &Head, room: &'a mut [u8]) -> &'a [u8]
     requires log { length log.now ≡ LOG_BYTES }
     requires room { length room.old ≡ MOST_RECORD_BYTES }
-    requires stands { (r : LogRecord) × IsIn log.now head.now r }
-    ensures { (r : LogRecord) → IsIn log.now head.now r → result.now ≡ r.body }
+    requires stands { (r : LogRecord) × IsInLog log.now head.now r }
+    ensures { (r : LogRecord) → IsInLog log.now head.now r → result.now ≡ r.body }
 {
     match open_at(log, head.lsn.sector, room) {
         Ok(_) => &room[SECTOR_BYTES..SECTOR_BYTES + head.len as usize],
@@ -36,14 +36,14 @@ pub fn body_at<'a>(log: &[u8], head: &Head, room: &'a mut [u8]) -> &'a [u8]
 fn test_unmount(log: &[u8], head: &Head, room: &mut [u8]) -> Result<(), ScanFault>
     requires log { length log.now ≡ LOG_BYTES }
     requires room { length room.old ≡ MOST_RECORD_BYTES }
-    requires stands { (r : LogRecord) × IsIn log.now head.now r }
-    ensures { (r : LogRecord) → IsIn log.now head.now r
+    requires stands { (r : LogRecord) × IsInLog log.now head.now r }
+    ensures { (r : LogRecord) → IsInLog log.now head.now r
         → MatchResult result (λ _. KeepsUnmounts r) (λ fault. (KeepsUnmounts r → ⊥) × (fault ≡ Place (home_of head.now))) }
 {
     let summary = sum_up(body_at(log, head, room));
     if summary.unmounts && (summary.operations != 1 || head.tail != head.lsn) {
         return Err(ScanFault::Place {
-            block: block_at(head.lsn.sector),
+            block: log_block_of(head.lsn.sector),
         });
     }
     Ok(())
@@ -53,7 +53,7 @@ fn test_unmount(log: &[u8], head: &Head, room: &mut [u8]) -> Result<(), ScanFaul
 pub fn test_unmounts(log: &[u8], heads: &[Head], room: &mut [u8]) -> Result<(), ScanFault>
     requires log { length log.now ≡ LOG_BYTES }
     requires room { length room.old ≡ MOST_RECORD_BYTES }
-    requires records { HasRecords log.now heads.now }
+    requires records { AreHeadersOf log.now heads.now }
     ensures { (records : List LogRecord) → AreIn log.now heads.now records
         → MatchResult result (λ _. All KeepsUnmounts records) (BreaksUnmounts records) }
 {
@@ -71,13 +71,13 @@ fn read_record(
     reader: &mut Reader,
     entries: &mut Vec<Entry>,
 ) -> Result<(), ScanFault>
-    requires { length body.now ≤ MOST_BODY_BYTES }
+    requires { length body.now ≤ MAX_BODY_BYTES }
     ensures reads { IfOk result (λ _. (r : LogRecord) → r.head ≡ head.now → r.body ≡ body.now
         → ReadsRecord r reader.old entries.old.items reader.new entries.new.items) }
     ensures wrong { IfErr result (OrNoMemory (λ fault. (fault ≡ Operation (home_of head.now)) × ((r : LogRecord) → r.head ≡ head.now → r.body ≡ body.now
         → IsWrongRecord r reader.old entries.old.items))) }
 {
-    let block = block_at(head.lsn.sector);
+    let block = log_block_of(head.lsn.sector);
     let summary = sum_up(body);
     if summary.bytes != body.len() || summary.operations != head.ops {
         return Err(ScanFault::Operation { block });
@@ -101,7 +101,7 @@ pub fn read_entries(
 ) -> Result<Vec<Entry>, ScanFault>
     requires log { length log.now ≡ LOG_BYTES }
     requires room { length room.old ≡ MOST_RECORD_BYTES }
-    requires records { HasRecords log.now heads.now }
+    requires records { AreHeadersOf log.now heads.now }
     ensures entries { IfOk result (λ entries. (records : List LogRecord) → AreIn log.now heads.now records → HasEntries records entries.items) }
     ensures broken { IfErr result (OrNoMemory (λ fault. (records : List LogRecord) → AreIn log.now heads.now records → BreaksOperations records fault)) }
 {

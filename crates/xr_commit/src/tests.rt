@@ -1,7 +1,7 @@
 //! Rows of logs, each with its live stream or its refusal. The operations' bytes were worked out by hand.
 ghost use Rattle.std.specs.Prelude.{◌≡◌, ◌<◌, ◌≤◌, length, drop};
 ghost use Rattle.xr_base.specs.Image.{part};
-ghost use Rattle.xr_record.specs.Record.{padded};
+ghost use Rattle.xr_record.specs.Record.{padded_body};
 
 use super::*;
 use crate::layout::LOG_BYTES;
@@ -10,10 +10,11 @@ use std::alloc::{AllocError, Global};
 use std::process::Abort;
 use std::test::Fail;
 use uuid::Uuid;
-use xr_base::geometry::{BLOCK_BYTES, BLOCKS, FIRST_LOG_BLOCK, LOG_SECTORS, SECTOR_BYTES, SECTORS};
+use xr_base::geometry::{
+    BLOCK_BYTES, BLOCKS, CYCLES, FIRST_LOG_BLOCK, LOG_SECTORS, SECTOR_BYTES, SECTORS,
+};
 use xr_disk::MemDisk;
 use xr_headers::fresh_block;
-use xr_record::layout::CYCLES;
 use xr_record::{Entry, Head, Lsn, NO_RECORD_BEFORE, seal};
 
 /// An unmount.
@@ -77,7 +78,7 @@ fn room_for(body: &[u8]) -> [u8; 2 * SECTOR_BYTES]
     requires some { 0 < length body.now }
     requires most { length body.now ≤ SECTOR_BYTES }
     ensures body { part SECTOR_BYTES (length body.now) result ≡ body.now }
-    ensures padding { drop SECTOR_BYTES result ≡ padded body.now }
+    ensures padding { drop SECTOR_BYTES result ≡ padded_body body.now }
 {
     let mut out = [0; 2 * SECTOR_BYTES];
     out[SECTOR_BYTES..SECTOR_BYTES + body.len()].copy_from_slice(body);

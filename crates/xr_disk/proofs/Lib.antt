@@ -1,2 +1,2 @@
-pub mod MemoryCalls
-pub mod Taking
+pub mod MemoryCallLemmas
+pub mod TakeLemmas

@@ -13,7 +13,7 @@ use Rattle.xr_disk.specs.declared.call.Call.TheVariants.{Read, Write, Sync}
 use Rattle.xr_disk.specs.Crash.{Crash, Write as InFlight, Torn, at_rest}
 use Rattle.xr_disk.specs.CrashLaws.{overlaid_outside, unchanged_outside}
 use Rattle.xr_disk.specs.Disk.{LeavesOnly}
-use Rattle.xr_disk.specs.Events.{Event, HasRead, HasWritten, HasSynced, number_of, latest, reads_after, MayLeave, LeftSince, lies_within, event_of, events_of, has_bytes, IsHistory, view_of, stops_at}
+use Rattle.xr_disk.specs.Events.{Event, HasRead, HasWritten, HasSynced, latest, reads_after, MayLeave, LeftSince, lies_within, event_of, events_of, has_bytes, IsHistory, view_of, stops_at, call_number}
 
 -- the parts of a test on a list
 pub head_passes : (b c : Bool) → IsTrue (b && c) → IsTrue b
@@ -107,7 +107,7 @@ calls_on image image' first es calls faults calls' faults' later = record {
   kept = λ t c within left. left;
 }
 
-pub event_on : (image image' first : List ℕ) (e : Event) (es : List Event) (calls faults calls' faults' : ℕ) → calls ≤ calls' → calls < number_of e
+pub event_on : (image image' first : List ℕ) (e : Event) (es : List Event) (calls faults calls' faults' : ℕ) → calls ≤ calls' → calls < call_number e
     → LeavesOnly (view_of image first es calls faults) (view_of image' first (e ∷ es) calls' faults') (MayLeave first (e ∷ es))
 event_on image image' first e es calls faults calls' faults' later newer = record {
   later = later;

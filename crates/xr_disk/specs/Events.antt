@@ -16,15 +16,15 @@ pub data Event : Type 0 where
   HasWritten : ℕ → ℕ → List ℕ → Bool → Event
   HasSynced : ℕ → Event
 
-abbrev pub number_of : Event → ℕ
-number_of (HasRead n) = n
-number_of (HasWritten n at bytes lands) = n
-number_of (HasSynced n) = n
+abbrev pub call_number : Event → ℕ
+call_number (HasRead n) = n
+call_number (HasWritten n at bytes lands) = n
+call_number (HasSynced n) = n
 
 -- the number of the newest event
 abbrev pub latest : List Event → ℕ
 latest [] = 0
-latest (e ∷ es) = number_of e
+latest (e ∷ es) = call_number e
 
 -- what reads give
 abbrev pub reads_after : List ℕ → List Event → List ℕ
@@ -50,7 +50,7 @@ MayLeave first (HasSynced n ∷ es) c = c ≡ at_rest (reads_after first es)
 -- what a crash at some moment from t on may have left: one now, or one before the newest event
 abbrev pub LeftSince : List ℕ → List Event → ℕ → Crash → Type 0
 LeftSince first [] t c = MayLeave first [] c
-LeftSince first (e ∷ es) t c = MayLeave first (e ∷ es) c ⊎ ((t < number_of e) × LeftSince first es t c)
+LeftSince first (e ∷ es) t c = MayLeave first (e ∷ es) c ⊎ ((t < call_number e) × LeftSince first es t c)
 
 -- a write lies in the image
 abbrev pub lies_within : Event → Bool
@@ -97,8 +97,8 @@ pub record IsHistory (first image synced : List ℕ) (events : List Event) (call
   pub within : IsTrue (list_all lies_within events)
 
 -- The next call fails: the clock has ended, the call is listed, the power goes with it or is gone, or it can't be kept.
-abbrev pub FailsNext : ℕ → List ℕ → Option ℕ → Type 0 → Type 0
-FailsNext calls fails stop Fits =
+abbrev pub DiskFailsNext : ℕ → List ℕ → Option ℕ → Type 0 → Type 0
+DiskFailsNext calls fails stop Fits =
     (calls ≡ 2 ^ 64 - 1) ⊎ Contains fails (calls + 1) ⊎ IsSomeAnd stop (λ s. s ≤ calls + 1) ⊎ (¬ Fits)
 
 -- The power goes with the next call, and the call can be kept.
@@ -109,6 +109,6 @@ pub record StopsNext (calls : ℕ) (stop : Option ℕ) (Fits : Type 0) : Type 0 
 
 -- what becomes of the next call, where Fits says that it can be kept
 abbrev pub IsFate : ℕ → List ℕ → Option ℕ → Type 0 → Fate → Type 0
-IsFate calls fails stop Fits Succeeds = (¬ FailsNext calls fails stop Fits) × Fits × (calls + 1 < 2 ^ 64) × (stops_at stop (calls + 1) ≡ false)
-IsFate calls fails stop Fits Stops = FailsNext calls fails stop Fits × Fits × (calls + 1 < 2 ^ 64) × (stops_at stop (calls + 1) ≡ true)
-IsFate calls fails stop Fits Fails = FailsNext calls fails stop Fits × (¬ StopsNext calls stop Fits)
+IsFate calls fails stop Fits Succeeds = (¬ DiskFailsNext calls fails stop Fits) × Fits × (calls + 1 < 2 ^ 64) × (stops_at stop (calls + 1) ≡ false)
+IsFate calls fails stop Fits Stops = DiskFailsNext calls fails stop Fits × Fits × (calls + 1 < 2 ^ 64) × (stops_at stop (calls + 1) ≡ true)
+IsFate calls fails stop Fits Fails = DiskFailsNext calls fails stop Fits × (¬ StopsNext calls stop Fits)

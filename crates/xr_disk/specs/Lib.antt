@@ -9,5 +9,6 @@ pub mod Memory
 pub mod MemoryDisk
 pub mod Plan
 pub mod Runs
+pub mod Seen
 pub mod Standard
 pub mod Stream

@@ -5,7 +5,7 @@ ghost use Rattle.xr_base.specs.Image.{part, overlaid};
 ghost use Rattle.xr_base.specs.declared.geometry.TheConstants.{SECTOR_BYTES, SECTORS};
 ghost use Rattle.xr_disk.specs.Crash.{Crash, IsSectorRange};
 ghost use Rattle.xr_disk.specs.Disk.{IsAtRest, IsSame, IsCall, MayTear};
-ghost use Rattle.xr_disk.specs.Events.{has_bytes, events_of, view_of, IsHistory, FailsNext, StopsNext};
+ghost use Rattle.xr_disk.specs.Events.{has_bytes, events_of, view_of, IsHistory, DiskFailsNext, StopsNext};
 ghost use Rattle.xr_disk.specs.Plan.{next_count};
 ghost use Rattle.xr_disk.specs.declared.call.Call.TheVariants.{Read, Write, Sync};
 ghost use Rattle.xr_disk.specs.EventLaws.{seen_may_stay, left_now, since_now, since_narrows, left_sized};
@@ -109,7 +109,7 @@ impl Disk for MemDisk {
         ensures call { IsCall (disk_view self.old) (disk_view self.new) result }
 
         // Exactly when it fails, and what is kept.
-        ensures fault { IsErr result ↔ FailsNext self.old.calls self.old.fails.items self.old.stop (vec_len self.old.done < self.old.room_calls) }
+        ensures fault { IsErr result ↔ DiskFailsNext self.old.calls self.old.fails.items self.old.stop (vec_len self.old.done < self.old.room_calls) }
         ensures kept { OnOk result (self.new.done.items ≡ self.old.done.items ++ Read (self.old.calls + 1) at ∷ []) }
         ensures not_kept { OnErr result (self.new.done.items ≡ self.old.done.items) }
         ensures plan { KeepsPlan self.old self.new }
@@ -141,7 +141,7 @@ impl Disk for MemDisk {
         ensures call { IsCall (disk_view self.old) (disk_view self.new) result }
 
         // Exactly when it fails, and what is kept.
-        ensures fault { IsErr result ↔ FailsNext self.old.calls self.old.fails.items self.old.stop
+        ensures fault { IsErr result ↔ DiskFailsNext self.old.calls self.old.fails.items self.old.stop
             ((vec_len self.old.done < self.old.room_calls) × (vec_len self.old.bytes + length bytes.now ≤ self.old.room_bytes)) }
         ensures kept { OnOk result (self.new.done.items ≡ self.old.done.items ++ Write (self.old.calls + 1) at (vec_len self.old.bytes) (length bytes.now) ∷ []) }
         ensures kept_bytes { OnOk result (self.new.bytes.items ≡ self.old.bytes.items ++ bytes.now) }
@@ -179,7 +179,7 @@ impl Disk for MemDisk {
         ensures call { IsCall (disk_view self.old) (disk_view self.new) result }
 
         // Exactly when it fails, and what is kept.
-        ensures fault { IsErr result ↔ FailsNext self.old.calls self.old.fails.items self.old.stop (vec_len self.old.done < self.old.room_calls) }
+        ensures fault { IsErr result ↔ DiskFailsNext self.old.calls self.old.fails.items self.old.stop (vec_len self.old.done < self.old.room_calls) }
         ensures kept { OnOk result (self.new.done.items ≡ self.old.done.items ++ Sync (self.old.calls + 1) ∷ []) }
         ensures covered { OnOk result (self.new.synced.items ≡ self.old.image.items) }
         ensures not_kept { OnErr result (self.new.done.items ≡ self.old.done.items) }

@@ -1,6 +1,2 @@
-pub mod Laying
-pub mod Naming
-pub mod Padding
-pub mod Reading
-pub mod Sealing
-pub mod FreshLaws
+pub mod FieldLemmas
+pub mod FirstWrongLemmas

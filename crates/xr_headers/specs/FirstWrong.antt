@@ -6,7 +6,7 @@ use Rattle.xr_headers.specs.declared.superblock.Super.{Super}
 use Rattle.xr_headers.specs.declared.group_head.GroupHead.{GroupHead}
 use Rattle.xr_headers.specs.declared.file_core.Core.{Core}
 use Rattle.xr_headers.specs.Headers.{super_fields, group_fields, core_fields, core_bytes, IsPoolRoot}
-use Rattle.xr_headers.specs.Sealed.{sealed}
+use Rattle.xr_headers.specs.Padded.{with_crc}
 
 -- the first place of which a fact holds
 pub record IsFirst (Fact : ℕ → Type 0) (place : ℕ) : Type 0 where
@@ -21,8 +21,8 @@ IsWrong bytes end wanted OutOfRange place = OutOfRange place ⊎ ((place < end) 
 -- the byte that is named is the first wrong one, unless the magic, the first four bytes, is right and the checksum isn't
 abbrev pub IsNamed : List ℕ → ℕ → (ℕ → Type 0) → ℕ → Type 0
 IsNamed bytes end Wrong place =
-    (IsFirst Wrong place × ((place < 4) ⊎ (bytes ≡ sealed end bytes)))
-    ⊎ ((place ≡ end) × (bytes ≢ sealed end bytes) × ((k : ℕ) → k < 4 → Wrong k → ⊥))
+    (IsFirst Wrong place × ((place < 4) ⊎ (bytes ≡ with_crc end bytes)))
+    ⊎ ((place ≡ end) × (bytes ≢ with_crc end bytes) × ((k : ℕ) → k < 4 → Wrong k → ⊥))
 
 -- the field of the byte that is named
 abbrev pub NamesField : (ℕ → ℕ) → List ℕ → ℕ → List ℕ → (ℕ → Type 0) → ℕ → Type 0

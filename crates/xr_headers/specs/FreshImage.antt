@@ -2,20 +2,21 @@
 use Rattle.std.specs.Prelude.{ℕ, ◌+◌, ◌-◌, ◌*◌, ◌/◌, ◌%◌, ◌^◌, ◌==◌, nat_lt, if◌then◌else◌, List, [], ◌∷◌, ◌++◌, length, replicate}
 use Rattle.byteorder.specs.Endian.{big_bytes}
 use Rattle.xr_base.specs.Image.{blocks_below}
-use Rattle.xr_base.specs.declared.geometry.TheConstants.{BLOCK_BYTES, SECTOR_BYTES, BLOCKS, FIRST_LOG_BLOCK, FIRST_FILE_BLOCK, FILE_BLOCKS, FIRST_INODE, FIRST_GROUP_BLOCK, GROUP_BLOCKS, FIRST_DATA_BLOCK, DATA_BLOCKS}
-use Rattle.xr_headers.specs.declared.layout.TheConstants.{BLOCK_SECTORS, BY_BLOCK_MAGIC, BY_SIZE_MAGIC, FILE_TREE_MAGIC, LONG_SEAL, MISSING, RECORD_FORMAT, RECORD_MAGIC, RECORD_SEAL, RECORD_SIZE, RECORD_VERSION, REFERENCE_MAGIC, REVERSE_MAGIC, SHORT_SEAL, UNMOUNT_BYTES, UNMOUNT_CLIENT, UNMOUNT_DATA, UNMOUNT_MAGIC}
+use Rattle.xr_base.specs.declared.geometry.TheConstants.{BLOCK_BYTES, SECTOR_BYTES, BLOCKS, FIRST_LOG_BLOCK, FIRST_FILE_BLOCK, FILE_BLOCKS, FIRST_INODE, FIRST_GROUP_BLOCK, GROUP_BLOCKS, FIRST_DATA_BLOCK, DATA_BLOCKS, BLOCK_SECTORS}
+use Rattle.xr_headers.specs.declared.layout.TheConstants.{MISSING, UNMOUNT_BYTES, UNMOUNT_CLIENT, UNMOUNT_DATA, UNMOUNT_MAGIC}
+use Rattle.xr_base.specs.declared.layout.TheConstants.{LONG_BB_CRC, SHORT_BB_CRC, MAPPING_MAGIC, REFERENCE_MAGIC, REVERSE_MAGIC, BY_SIZE_MAGIC, BY_BLOCK_MAGIC, MAX_BODY_BYTES, RECORD_CRC, RECORD_FORMAT, RECORD_VERSION, RECORD_MAGIC}
 use Rattle.xr_headers.specs.declared.group_head.GroupHead.{GroupHead}
 use Rattle.xr_headers.specs.declared.file_core.Core.{Core}
 use Rattle.xr_headers.specs.Headers.{super_block, group_block, core_block}
-use Rattle.xr_headers.specs.Sealed.{padded, words, sealed}
+use Rattle.xr_headers.specs.Padded.{words, with_crc, zero_padded}
 
 -- a block of zeros
 abbrev pub zero_block : List ℕ
-zero_block = padded BLOCK_BYTES []
+zero_block = zero_padded BLOCK_BYTES []
 
 -- the sector where an image block begins
-abbrev pub sector_at : ℕ → ℕ
-sector_at block = block * BLOCK_SECTORS
+abbrev pub first_sector_of : ℕ → ℕ
+first_sector_of block = block * BLOCK_SECTORS
 
 -- how the log's one record begins
 abbrev pub record_opening : ℕ → List ℕ
@@ -26,39 +27,39 @@ abbrev pub first_lsn : ℕ → List ℕ
 first_lsn cycle = big_bytes 8 (cycle * 2 ^ 32)
 
 -- the record's one operation, with the cycle in place of its first word
-abbrev pub unmount_body : ℕ → List ℕ
-unmount_body cycle = words (cycle ∷ UNMOUNT_DATA ∷ UNMOUNT_CLIENT ∷ UNMOUNT_MAGIC ∷ 0 ∷ [])
+abbrev pub stamped_unmount : ℕ → List ℕ
+stamped_unmount cycle = words (cycle ∷ UNMOUNT_DATA ∷ UNMOUNT_CLIENT ∷ UNMOUNT_MAGIC ∷ 0 ∷ [])
 
 -- the record says that the log is at rest, is its own tail, and has no record before it. The first word of its body,
 -- which is zero, is the first of the 64 that the header keeps.
 unfoldable pub unmount_fields : List ℕ → ℕ → List ℕ
 unmount_fields uuid cycle =
     record_opening cycle ++ first_lsn cycle ++ first_lsn cycle ++ words (0 ∷ MISSING ∷ 1 ∷ [])
-    ++ replicate 256 0 ++ words (RECORD_FORMAT ∷ []) ++ uuid ++ words (RECORD_SIZE ∷ [])
-    ++ replicate 188 0 ++ unmount_body cycle
+    ++ replicate 256 0 ++ words (RECORD_FORMAT ∷ []) ++ uuid ++ words (MAX_BODY_BYTES ∷ [])
+    ++ replicate 188 0 ++ stamped_unmount cycle
 
 -- the log's first block: the record's two sectors, and zeros
 abbrev pub fresh_log_block : List ℕ → ℕ → List ℕ
-fresh_log_block uuid cycle = padded BLOCK_BYTES (sealed RECORD_SEAL (padded (2 * SECTOR_BYTES) (unmount_fields uuid cycle)))
+fresh_log_block uuid cycle = zero_padded BLOCK_BYTES (with_crc RECORD_CRC (zero_padded (2 * SECTOR_BYTES) (unmount_fields uuid cycle)))
 
 -- a leaf of a group's tree that is the tree's root, with at most one record of two words. Its level is zero, it has no
 -- siblings, and no record of the log stands for it.
 unfoldable pub short_leaf_fields : ℕ → List ℕ → List ℕ → ℕ → ℕ → List ℕ
 short_leaf_fields magic numbers uuid block owner =
     words (magic ∷ []) ++ replicate 2 0 ++ big_bytes 2 (length numbers / 2) ++ words (MISSING ∷ MISSING ∷ [])
-    ++ big_bytes 8 (sector_at block) ++ replicate 8 0 ++ uuid ++ words (owner ∷ []) ++ replicate 4 0 ++ words numbers
+    ++ big_bytes 8 (first_sector_of block) ++ replicate 8 0 ++ uuid ++ words (owner ∷ []) ++ replicate 4 0 ++ words numbers
 
 abbrev pub short_leaf : ℕ → List ℕ → List ℕ → ℕ → ℕ → List ℕ
-short_leaf magic numbers uuid block owner = sealed SHORT_SEAL (padded BLOCK_BYTES (short_leaf_fields magic numbers uuid block owner))
+short_leaf magic numbers uuid block owner = with_crc SHORT_BB_CRC (zero_padded BLOCK_BYTES (short_leaf_fields magic numbers uuid block owner))
 
 -- an empty leaf of a file's tree that is the tree's root
 unfoldable pub long_leaf_fields : List ℕ → ℕ → ℕ → List ℕ
 long_leaf_fields uuid block owner =
-    words (FILE_TREE_MAGIC ∷ 0 ∷ MISSING ∷ MISSING ∷ MISSING ∷ MISSING ∷ [])
-    ++ big_bytes 8 (sector_at block) ++ replicate 8 0 ++ uuid ++ big_bytes 8 owner
+    words (MAPPING_MAGIC ∷ 0 ∷ MISSING ∷ MISSING ∷ MISSING ∷ MISSING ∷ [])
+    ++ big_bytes 8 (first_sector_of block) ++ replicate 8 0 ++ uuid ++ big_bytes 8 owner
 
 abbrev pub long_leaf : List ℕ → ℕ → ℕ → List ℕ
-long_leaf uuid block owner = sealed LONG_SEAL (padded BLOCK_BYTES (long_leaf_fields uuid block owner))
+long_leaf uuid block owner = with_crc LONG_BB_CRC (zero_padded BLOCK_BYTES (long_leaf_fields uuid block owner))
 
 -- a fresh file: its core, the empty root of its tree, and free blocks
 abbrev pub fresh_core : List ℕ → ℕ → Core

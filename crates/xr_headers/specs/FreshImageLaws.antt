@@ -4,10 +4,10 @@ use Rattle.std.proofs.lemmas.Bool.{cases_lt}
 use Rattle.std.proofs.lemmas.List.{drop-append-le, drop_at, length-append, length-drop, take-append-le, take_all}
 use Rattle.xr_base.specs.Image.{block_of, blocks_below}
 use Rattle.xr_base.specs.declared.geometry.TheConstants.{BLOCK_BYTES, BLOCKS, FILE_BLOCKS, FIRST_FILE_BLOCK, FIRST_GROUP_BLOCK, FIRST_LOG_BLOCK, GROUP_BLOCKS}
-use Rattle.xr_headers.specs.declared.layout.TheConstants.{BY_BLOCK_MAGIC, BY_SIZE_MAGIC, LONG_SEAL, REFERENCE_MAGIC, REVERSE_MAGIC, SHORT_SEAL}
+use Rattle.xr_base.specs.declared.layout.TheConstants.{LONG_BB_CRC, SHORT_BB_CRC, REFERENCE_MAGIC, REVERSE_MAGIC, BY_SIZE_MAGIC, BY_BLOCK_MAGIC}
 use Rattle.xr_headers.specs.FreshImage.{fresh_block_of, fresh_core, fresh_file_block, fresh_front_block, fresh_group_block, fresh_head, fresh_image, fresh_leaf, short_leaf_fields, whole_data, zero_block}
 use Rattle.xr_headers.specs.HeaderLaws.{length-super_block, length-group_block, length-core_block}
-use Rattle.xr_headers.specs.SealedLaws.{length-padded, length-sealed_padded}
+use Rattle.xr_headers.specs.PaddedLaws.{length-zero_padded, length-with_crc_padded}
 
 -- either list is as long
 length-cond : (test : Bool) (xs ys : List ℕ) (n : ℕ) → length xs ≡ n → length ys ≡ n → length (cond test xs ys) ≡ n
@@ -15,21 +15,21 @@ length-cond true xs ys n one two = one
 length-cond false xs ys n one two = two
 
 length-zero_block : length zero_block ≡ BLOCK_BYTES
-length-zero_block = length-padded BLOCK_BYTES []
+length-zero_block = length-zero_padded BLOCK_BYTES []
 
 length-fresh_leaf : (uuid : List ℕ) (group place magic : ℕ) (numbers : List ℕ) → length (fresh_leaf uuid group place magic numbers) ≡ BLOCK_BYTES
 length-fresh_leaf uuid group place magic numbers =
-    length-sealed_padded SHORT_SEAL BLOCK_BYTES (short_leaf_fields magic numbers uuid (FIRST_GROUP_BLOCK + group * GROUP_BLOCKS + place) group) (omega arith)
+    length-with_crc_padded SHORT_BB_CRC BLOCK_BYTES (short_leaf_fields magic numbers uuid (FIRST_GROUP_BLOCK + group * GROUP_BLOCKS + place) group) (omega arith)
 
 length-front : (uuid : List ℕ) (cycle n : ℕ) → length (fresh_front_block uuid cycle n) ≡ BLOCK_BYTES
 length-front uuid cycle n =
     length-cond (eqb n 0) _ _ _ (length-super_block (record { uuid = uuid }))
-    (length-cond (eqb n FIRST_LOG_BLOCK) _ _ _ (length-padded BLOCK_BYTES _) length-zero_block)
+    (length-cond (eqb n FIRST_LOG_BLOCK) _ _ _ (length-zero_padded BLOCK_BYTES _) length-zero_block)
 
 length-file : (uuid : List ℕ) (file place : ℕ) → length (fresh_file_block uuid file place) ≡ BLOCK_BYTES
 length-file uuid file place =
     length-cond (eqb place 0) _ _ _ (length-core_block (fresh_core uuid file))
-    (length-cond (eqb place 1) _ _ _ (length-sealed_padded LONG_SEAL BLOCK_BYTES _ (omega arith)) length-zero_block)
+    (length-cond (eqb place 1) _ _ _ (length-with_crc_padded LONG_BB_CRC BLOCK_BYTES _ (omega arith)) length-zero_block)
 
 length-group : (uuid : List ℕ) (group place : ℕ) → length (fresh_group_block uuid group place) ≡ BLOCK_BYTES
 length-group uuid group place =

@@ -1,7 +1,11 @@
+pub mod ChecksumLaws
 pub mod FirstWrong
 pub mod FreshImage
 pub mod FreshImageLaws
-pub mod Headers
+pub mod FreshLaws
 pub mod HeaderLaws
-pub mod Sealed
-pub mod SealedLaws
+pub mod Headers
+pub mod Padded
+pub mod PaddedLaws
+pub mod PaddingLaws
+pub mod ReadBackLaws

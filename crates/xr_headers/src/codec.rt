@@ -4,15 +4,15 @@ ghost use Rattle.byteorder.specs.Endian.{big_bytes, little_bytes};
 ghost use Rattle.xr_base.specs.Checksum.{checksum_of, without_four};
 ghost use Rattle.xr_base.specs.Image.{part, overlaid};
 ghost use Rattle.xr_headers.specs.FirstWrong.{IsFirst, IsNamed, IsWrong};
-ghost use Rattle.xr_headers.specs.FreshImage.{sector_at};
+ghost use Rattle.xr_headers.specs.FreshImage.{first_sector_of};
 ghost use Rattle.xr_headers.specs.Headers.{AreWords};
-ghost use Rattle.xr_headers.specs.Sealed.{numbers_in, padded, words, sealed};
+ghost use Rattle.xr_headers.specs.Padded.{numbers_in, words, with_crc, zero_padded};
 
-use crate::layout::{BLOCK_SECTORS, UUID_BYTES};
 use byteorder::{BigEndian, ByteOrder, LittleEndian};
 use thiserror::Error;
 use uuid::Uuid;
 use xr_base::crc32c_without;
+use xr_base::geometry::{BLOCK_SECTORS, UUID_BYTES};
 
 /// The image block of a header that isn't what it has to be, and the place there of its first wrong field. A byte that
 /// has to be zero is a field of its own.
@@ -25,7 +25,7 @@ pub struct HeaderFault {
 
 /// Makes all bytes zero.
 pub(crate) fn clear(out: &mut [u8])
-    ensures { out.new ≡ padded (length out.old) [] }
+    ensures { out.new ≡ zero_padded (length out.old) [] }
 {
     for byte in out.iter_mut() {
         *byte = 0;
@@ -75,9 +75,9 @@ pub(crate) fn put_u64(out: &mut [u8], at: usize, number: u64)
 /// Writes the sector where an image block begins.
 pub(crate) fn put_sector(out: &mut [u8], at: usize, block: u32)
     requires { at + 8 ≤ length out.old }
-    ensures { out.new ≡ overlaid at (big_bytes 8 (sector_at block)) out.old }
+    ensures { out.new ≡ overlaid at (big_bytes 8 (first_sector_of block)) out.old }
 {
-    put_u64(out, at, u64::from(block) * BLOCK_SECTORS);
+    put_u64(out, at, u64::from(block) * u64::from(BLOCK_SECTORS));
 }
 
 /// Writes the log sequence number of the log's sector 0 in a cycle.
@@ -101,7 +101,7 @@ fn sum_bytes(bytes: &[u8], at: usize) -> [u8; 4]
 /// Writes the checksum of all bytes.
 pub(crate) fn seal(out: &mut [u8], at: usize)
     requires { at + 4 ≤ length out.old }
-    ensures { out.new ≡ sealed at out.old }
+    ensures { out.new ≡ with_crc at out.old }
 {
     let sum = sum_bytes(out, at);
     put_bytes(out, at, &sum);
@@ -129,7 +129,7 @@ pub(crate) fn read_words(bytes: &[u8], at: usize, numbers: &mut [u32])
 /// Whether the checksum is that of all bytes.
 fn is_sealed(bytes: &[u8], at: usize) -> bool
     requires { at + 4 ≤ length bytes.now }
-    ensures { IsTrue result ↔ bytes.now ≡ sealed at bytes.now }
+    ensures { IsTrue result ↔ bytes.now ≡ with_crc at bytes.now }
 {
     let sum = sum_bytes(bytes, at);
     bytes[at..at + 4] == sum[..]
@@ -182,7 +182,7 @@ fn magic_first(place: Option<usize>, sealed: bool, end: usize) -> Option<usize>
 pub(crate) fn first_wrong(bytes: &[u8], wanted: &[u8], broken: Option<usize>) -> Option<usize>
     requires room { length wanted.now + 4 ≤ length bytes.now }
     requires broken_within { IfSome broken (λ place. place < length bytes.now) }
-    ensures right { IsNone result ↔ (IsNone broken × (bytes.now ≡ sealed (length bytes.now - 4) (padded (length bytes.now) wanted.now))) }
+    ensures right { IsNone result ↔ (IsNone broken × (bytes.now ≡ with_crc (length bytes.now - 4) (zero_padded (length bytes.now) wanted.now))) }
     ensures within { IfSome result (λ place. place < length bytes.now) }
     ensures named { let end = length bytes.now - 4 in IfSome result (λ place. IsNamed bytes.now end (IsWrong bytes.now end wanted.now (λ k. broken ≡ Some k)) place) }
 {

@@ -2,18 +2,19 @@
 ghost use Rattle.std.specs.Prelude.{◌≡◌, ◌+◌, ◌*◌, ◌<◌, ◌≤◌, ◌↔◌, length, take, IsNone, IfSome, Ok, IfOk, IfErr};
 ghost use Rattle.xr_headers.specs.FirstWrong.{IsFirst, IsCoreOutOfRange, NamesCoreBlockField, NamesCoreField, core_field};
 ghost use Rattle.xr_headers.specs.Headers.{core_in, IsCore, KeepsFilePool, core_fields, core_bytes, core_block};
-ghost use Rattle.xr_headers.specs.Sealed.{IsLaid};
+ghost use Rattle.xr_headers.specs.Padded.{IsLaid};
 
 use crate::codec::{
     HeaderFault, clear, difference, first_wrong, put_u64, put_uuid, put_words, read_words, seal,
 };
 use crate::layout::{
-    CORE_BYTES, CORE_FIELDS, CORE_MAGIC, CORE_ROOT_PLACE, CORE_SEAL, UUID_BYTES, UUID_PLACE,
-    VERSION,
+    CORE_BYTES, CORE_FIELDS, CORE_MAGIC, CORE_ROOT_PLACE, CORE_SEAL, UUID_PLACE, VERSION,
 };
 use uuid::Uuid;
 use xr_base::FileNo;
-use xr_base::geometry::{BLOCK_BYTES, FILE_BLOCKS, FILES, FIRST_FILE_BLOCK, FIRST_INODE};
+use xr_base::geometry::{
+    BLOCK_BYTES, FILE_BLOCKS, FILES, FIRST_FILE_BLOCK, FIRST_INODE, UUID_BYTES,
+};
 
 /// The core of a file. Its root and its free blocks are counted within the file.
 #[derive(Clone, Copy, Debug, PartialEq, Eq)]

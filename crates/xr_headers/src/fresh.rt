@@ -7,15 +7,14 @@ use crate::file_core::{Core, put_core};
 use crate::fresh_leaves::{put_long_leaf, put_short_leaf};
 use crate::fresh_log::put_fresh_log;
 use crate::group_head::{GroupHead, put_group};
-use crate::layout::{
-    BY_BLOCK_MAGIC, BY_SIZE_MAGIC, CYCLES, FREE_MAP_BYTES, REFERENCE_MAGIC, REVERSE_MAGIC,
-};
+use crate::layout::FREE_MAP_BYTES;
 use crate::superblock::{Super, put_super};
 use uuid::Uuid;
 use xr_base::geometry::{
-    BLOCK_BYTES, BLOCKS, DATA_BLOCKS, FILE_BLOCKS, FILES, FIRST_DATA_BLOCK, FIRST_FILE_BLOCK,
-    FIRST_GROUP_BLOCK, FIRST_INODE, FIRST_LOG_BLOCK, GROUP_BLOCKS, GROUPS,
+    BLOCK_BYTES, BLOCKS, CYCLES, DATA_BLOCKS, FILE_BLOCKS, FILES, FIRST_DATA_BLOCK,
+    FIRST_FILE_BLOCK, FIRST_GROUP_BLOCK, FIRST_INODE, FIRST_LOG_BLOCK, GROUP_BLOCKS, GROUPS,
 };
+use xr_base::layout::{BY_BLOCK_MAGIC, BY_SIZE_MAGIC, REFERENCE_MAGIC, REVERSE_MAGIC};
 use xr_base::{FileNo, GroupNo};
 
 /// The first byte of a map in which the blocks from 5 on are free.

@@ -1,17 +1,18 @@
 //! The roots of fresh trees: leaves that hold at most one record.
 ghost use Rattle.std.specs.Prelude.{◌≡◌, ◌<◌, ◌≤◌, ◌*◌, length};
 ghost use Rattle.xr_headers.specs.FreshImage.{short_leaf_fields, short_leaf, long_leaf_fields, long_leaf};
-ghost use Rattle.xr_headers.specs.Sealed.{padded};
+ghost use Rattle.xr_headers.specs.Padded.{zero_padded};
 
 use crate::codec::{clear, put_sector, put_u16, put_u64, put_uuid, put_words, seal};
-use crate::layout::{FILE_TREE_MAGIC, LONG_SEAL, MISSING, SHORT_SEAL};
+use crate::layout::MISSING;
 use uuid::Uuid;
 use xr_base::geometry::BLOCK_BYTES;
+use xr_base::layout::{LONG_BB_CRC, MAPPING_MAGIC, SHORT_BB_CRC};
 
 fn lay_short_leaf(magic: u32, numbers: &[u32], uuid: &Uuid, block: u32, owner: u32, out: &mut [u8])
     requires few { length numbers.now ≤ 2 }
     requires room { length out.old ≡ BLOCK_BYTES }
-    ensures { out.new ≡ padded (length out.old) (short_leaf_fields magic numbers.now uuid.now block owner) }
+    ensures { out.new ≡ zero_padded (length out.old) (short_leaf_fields magic numbers.now uuid.now block owner) }
 {
     clear(out);
     put_words(out, 0, &[magic]);
@@ -37,18 +38,18 @@ pub(crate) fn put_short_leaf(
     ensures { out.new ≡ short_leaf magic numbers.now uuid.now block owner }
 {
     lay_short_leaf(magic, numbers, uuid, block, owner, out);
-    seal(out, SHORT_SEAL);
+    seal(out, SHORT_BB_CRC);
 }
 
 fn lay_long_leaf(uuid: &Uuid, block: u32, owner: u64, out: &mut [u8])
     requires { length out.old ≡ BLOCK_BYTES }
-    ensures { out.new ≡ padded (length out.old) (long_leaf_fields uuid.now block owner) }
+    ensures { out.new ≡ zero_padded (length out.old) (long_leaf_fields uuid.now block owner) }
 {
     clear(out);
     put_words(
         out,
         0,
-        &[FILE_TREE_MAGIC, 0, MISSING, MISSING, MISSING, MISSING],
+        &[MAPPING_MAGIC, 0, MISSING, MISSING, MISSING, MISSING],
     );
     put_sector(out, 24, block);
     put_uuid(out, 40, uuid);
@@ -61,5 +62,5 @@ pub(crate) fn put_long_leaf(uuid: &Uuid, block: u32, owner: u64, out: &mut [u8])
     ensures { out.new ≡ long_leaf uuid.now block owner }
 {
     lay_long_leaf(uuid, block, owner, out);
-    seal(out, LONG_SEAL);
+    seal(out, LONG_BB_CRC);
 }

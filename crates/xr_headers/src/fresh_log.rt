@@ -1,15 +1,13 @@
 //! The first block of a fresh log, which holds one record: the log is at rest.
 ghost use Rattle.std.specs.Prelude.{◌≡◌, length};
 ghost use Rattle.xr_headers.specs.FreshImage.{fresh_log_block, unmount_fields};
-ghost use Rattle.xr_headers.specs.Sealed.{IsLaid};
+ghost use Rattle.xr_headers.specs.Padded.{IsLaid};
 
 use crate::codec::{clear, put_first_lsn, put_uuid, put_words, seal};
-use crate::layout::{
-    MISSING, RECORD_FORMAT, RECORD_MAGIC, RECORD_SEAL, RECORD_SIZE, RECORD_VERSION, UNMOUNT_BYTES,
-    UNMOUNT_CLIENT, UNMOUNT_DATA, UNMOUNT_MAGIC,
-};
+use crate::layout::{MISSING, UNMOUNT_BYTES, UNMOUNT_CLIENT, UNMOUNT_DATA, UNMOUNT_MAGIC};
 use uuid::Uuid;
 use xr_base::geometry::{BLOCK_BYTES, SECTOR_BYTES};
+use xr_base::layout::{MAX_BODY_BYTES, RECORD_CRC, RECORD_FORMAT, RECORD_MAGIC, RECORD_VERSION};
 
 fn lay_record(uuid: &Uuid, cycle: u32, out: &mut [u8])
     requires { length out.old ≡ BLOCK_BYTES }
@@ -26,7 +24,7 @@ fn lay_record(uuid: &Uuid, cycle: u32, out: &mut [u8])
     put_words(out, 32, &[0, MISSING, 1]);
     put_words(out, 300, &[RECORD_FORMAT]);
     put_uuid(out, 304, uuid);
-    put_words(out, 320, &[RECORD_SIZE]);
+    put_words(out, 320, &[MAX_BODY_BYTES as u32]);
     put_words(
         out,
         SECTOR_BYTES,
@@ -40,5 +38,5 @@ pub(crate) fn put_fresh_log(uuid: &Uuid, cycle: u32, out: &mut [u8])
     ensures { out.new ≡ fresh_log_block uuid.now cycle }
 {
     lay_record(uuid, cycle, out);
-    seal(&mut out[..2 * SECTOR_BYTES], RECORD_SEAL);
+    seal(&mut out[..2 * SECTOR_BYTES], RECORD_CRC);
 }

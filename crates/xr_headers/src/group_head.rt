@@ -2,18 +2,20 @@
 ghost use Rattle.std.specs.Prelude.{◌≡◌, ◌+◌, ◌*◌, ◌<◌, ◌≤◌, ◌↔◌, ℕ, length, slice_index, IsNone, IfSome, Ok, IfOk, IfErr};
 ghost use Rattle.xr_headers.specs.FirstWrong.{IsFirst, IsGroupOutOfRange, NamesGroupField, group_field};
 ghost use Rattle.xr_headers.specs.Headers.{group_in, IsPoolRoot, AreWords, IsGroupHead, KeepsPool, group_fields, group_block};
-ghost use Rattle.xr_headers.specs.Sealed.{IsLaid};
+ghost use Rattle.xr_headers.specs.Padded.{IsLaid};
 
 use crate::codec::{
     HeaderFault, clear, first_wrong, put_bytes, put_uuid, put_words, read_words, seal,
 };
 use crate::layout::{
     BLOCK_SEAL, FREE_MAP_BYTES, FREE_MAP_PLACE, GROUP_BYTES, GROUP_MAGIC, LEVELS_PLACE,
-    ROOTS_PLACE, UUID_BYTES, UUID_PLACE, VERSION,
+    ROOTS_PLACE, UUID_PLACE, VERSION,
 };
 use uuid::Uuid;
 use xr_base::GroupNo;
-use xr_base::geometry::{BLOCK_BYTES, FIRST_DATA_BLOCK, FIRST_GROUP_BLOCK, GROUP_BLOCKS, GROUPS};
+use xr_base::geometry::{
+    BLOCK_BYTES, FIRST_DATA_BLOCK, FIRST_GROUP_BLOCK, GROUP_BLOCKS, GROUPS, UUID_BYTES,
+};
 
 /// The header of a group. Roots, levels and free blocks are counted within the group.
 #[derive(Clone, Copy, Debug, PartialEq, Eq)]

@@ -2,14 +2,14 @@
 ghost use Rattle.std.specs.Prelude.{◌≡◌, ◌≤◌, length, Ok, IfOk, IfErr};
 ghost use Rattle.xr_headers.specs.FirstWrong.{NamesSuperField, super_field};
 ghost use Rattle.xr_headers.specs.Headers.{super_in, IsSuper, super_fields, super_block};
-ghost use Rattle.xr_headers.specs.Sealed.{IsLaid};
+ghost use Rattle.xr_headers.specs.Padded.{IsLaid};
 
 use crate::codec::{HeaderFault, clear, first_wrong, put_uuid, put_words, seal, uuid_at};
-use crate::layout::{BLOCK_SEAL, SUPER_BYTES, SUPER_MAGIC, UUID_BYTES, UUID_PLACE, VERSION};
+use crate::layout::{BLOCK_SEAL, SUPER_BYTES, SUPER_MAGIC, UUID_PLACE, VERSION};
 use uuid::Uuid;
 use xr_base::geometry::{
     BLOCK_BYTES, BLOCKS, FILES, FIRST_DATA_BLOCK, FIRST_FILE_BLOCK, FIRST_GROUP_BLOCK,
-    FIRST_LOG_BLOCK, GROUP_BLOCKS, GROUPS, LOG_SECTORS,
+    FIRST_LOG_BLOCK, GROUP_BLOCKS, GROUPS, LOG_SECTORS, UUID_BYTES,
 };
 
 /// What a superblock says that isn't the same in all images.

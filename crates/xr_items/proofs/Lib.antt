@@ -1,3 +1,1 @@
-pub mod Laid
-pub mod Ordered
-pub mod Whole
+pub mod FirstBrokenLemmas

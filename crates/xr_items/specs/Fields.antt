@@ -1,6 +1,7 @@
 -- Numbers of two, four and eight bytes, one after the other, the lowest byte of each first.
-use Rattle.std.specs.Prelude.{◌≡◌, ℕ, ◌+◌, List, [], ◌∷◌, ◌++◌, drop, ⊤}
-use Rattle.byteorder.specs.Endian.{little_bytes, little_number}
+use Rattle.std.specs.Prelude.{◌≡◌, ℕ, ◌+◌, List, [], ◌∷◌, ◌++◌, ⊤}
+use Rattle.byteorder.specs.Endian.{little_bytes}
+use Rattle.xr_base.specs.Fields.{le_at}
 use Rattle.xr_items.specs.declared.fields.Field.{Field}
 use Rattle.xr_items.specs.declared.fields.Field.TheVariants.{Half, Word, Long}
 
@@ -26,21 +27,8 @@ abbrev pub widths : List Field → ℕ
 widths [] = 0
 widths (field ∷ fields) = width field + widths fields
 
--- the number of so many bytes at a place
-unfoldable pub number_at : ℕ → List ℕ → ℕ → ℕ
-number_at size bytes place = little_number size (drop place bytes)
-
-abbrev pub half_at : List ℕ → ℕ → ℕ
-half_at bytes place = number_at 2 bytes place
-
-abbrev pub word_at : List ℕ → ℕ → ℕ
-word_at bytes place = number_at 4 bytes place
-
-abbrev pub long_at : List ℕ → ℕ → ℕ
-long_at bytes place = number_at 8 bytes place
-
 -- from a place on the bytes hold these fields
 abbrev pub AreFields : List Field → ℕ → List ℕ → Type 0
 AreFields [] place bytes = ⊤
 AreFields (field ∷ fields) place bytes =
-    (number_at (width field) bytes place ≡ number field) × AreFields fields (place + width field) bytes
+    (le_at (width field) bytes place ≡ number field) × AreFields fields (place + width field) bytes

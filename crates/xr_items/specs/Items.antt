@@ -1,11 +1,11 @@
 -- Items as bytes.
 use Rattle.std.specs.Prelude.{ℕ, ◌+◌, List, [], ◌∷◌}
 use Rattle.xr_base.specs.declared.address.Run.{Run}
-use Rattle.xr_base.specs.declared.geometry.TheConstants.{BLOCK_BYTES, FIRST_INODE}
+use Rattle.xr_base.specs.declared.geometry.TheConstants.{BLOCK_BYTES, FIRST_INODE, BLOCK_SECTORS}
 use Rattle.xr_headers.specs.declared.layout.TheConstants.{CORE_BYTES}
 use Rattle.xr_items.specs.declared.fields.Field.{Field}
 use Rattle.xr_items.specs.declared.fields.Field.TheVariants.{Half, Word, Long}
-use Rattle.xr_items.specs.declared.layout.TheConstants.{BUF_TYPE, INODE_TYPE, EFI_TYPE, EFD_TYPE, RUI_TYPE, RUD_TYPE, CUI_TYPE, CUD_TYPE, BUI_TYPE, BUD_TYPE, XMI_TYPE, XMD_TYPE, BLOCK_SECTORS, WHOLE_BLOCK}
+use Rattle.xr_items.specs.declared.layout.TheConstants.{BUF_TYPE, INODE_TYPE, EFI_TYPE, EFD_TYPE, RUI_TYPE, RUD_TYPE, CUI_TYPE, CUD_TYPE, BUI_TYPE, BUD_TYPE, XMI_TYPE, XMD_TYPE, WHOLE_BLOCK}
 use Rattle.xr_items.specs.declared.work.OwnKind.{OwnKind}
 use Rattle.xr_items.specs.declared.work.OwnKind.TheVariants as own_kind
 use Rattle.xr_items.specs.declared.work.CountKind.{CountKind}

@@ -1,5 +1,7 @@
+pub mod FieldLaws
 pub mod Fields
-pub mod Items
-pub mod Valid
 pub mod FirstBroken
+pub mod ItemLaws
+pub mod Items
 pub mod Transactions
+pub mod Valid

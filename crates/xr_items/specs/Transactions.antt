@@ -2,8 +2,7 @@
 use Rattle.std.specs.Prelude.{◌≡◌, ◌≢◌, ◌⊎◌, ℕ, ◌+◌, ◌-◌, ◌/◌, ◌%◌, ◌<◌, ◌≤◌, List, [], length, vec_capacity}
 use Rattle.std.specs.Global.{Vec}
 use Rattle.std.specs.List.{All, AllPairs}
-use Rattle.xr_base.specs.declared.geometry.TheConstants.{FIRST_FILE_BLOCK, FIRST_GROUP_BLOCK, FILE_BLOCKS, FIRST_INODE}
-use Rattle.xr_headers.specs.declared.layout.TheConstants.{UUID_BYTES}
+use Rattle.xr_base.specs.declared.geometry.TheConstants.{FIRST_FILE_BLOCK, FIRST_GROUP_BLOCK, FILE_BLOCKS, FIRST_INODE, UUID_BYTES}
 use Rattle.xr_headers.specs.declared.file_core.Core.{Core}
 use Rattle.xr_headers.specs.Headers.{IsCore, core_block}
 use Rattle.xr_items.specs.declared.layout.TheConstants.{TRANS_BLOCKS, TRANS_WORKS, TRANS_SLOTS}

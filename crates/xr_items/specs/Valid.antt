@@ -2,8 +2,8 @@
 use Rattle.std.specs.Prelude.{◌≡◌, ◌⊎◌, ℕ, ◌+◌, ◌-◌, ◌/◌, ◌%◌, ◌<◌, ◌≤◌, ⊤}
 use Rattle.xr_base.specs.Address.{IsGoodRun}
 use Rattle.xr_base.specs.declared.address.FileNo.{FileNo}
-use Rattle.xr_base.specs.declared.geometry.TheConstants.{FILES, FIRST_INODE, OFFSETS, FIRST_FILE_BLOCK, FILE_BLOCKS, FIRST_GROUP_BLOCK, GROUP_BLOCKS, GROUPS, FIRST_DATA_BLOCK}
-use Rattle.xr_items.specs.declared.layout.TheConstants.{BLOCK_SECTORS, IDS, STAGING_OWNER}
+use Rattle.xr_base.specs.declared.geometry.TheConstants.{FILES, FIRST_INODE, OFFSETS, FIRST_FILE_BLOCK, FILE_BLOCKS, FIRST_GROUP_BLOCK, GROUP_BLOCKS, GROUPS, FIRST_DATA_BLOCK, BLOCK_SECTORS, OWN_COW}
+use Rattle.xr_items.specs.declared.layout.TheConstants.{IDS}
 use Rattle.xr_items.specs.declared.work.OwnKind.{OwnKind}
 use Rattle.xr_items.specs.declared.work.OwnKind.TheVariants as own_kind
 use Rattle.xr_items.specs.declared.work.Work.{Work}
@@ -42,12 +42,12 @@ IsBufferSector sector = (sector % BLOCK_SECTORS ≡ 0) × IsBufferBlock (sector 
 abbrev pub SuitsOwner : OwnKind → ℕ → Type 0
 SuitsOwner own_kind.MapShared owner = IsInode owner
 SuitsOwner own_kind.UnmapShared owner = IsInode owner
-SuitsOwner own_kind.Alloc owner = owner ≡ STAGING_OWNER
-SuitsOwner own_kind.Free owner = owner ≡ STAGING_OWNER
+SuitsOwner own_kind.Alloc owner = owner ≡ OWN_COW
+SuitsOwner own_kind.Free owner = owner ≡ OWN_COW
 
 -- the run's blocks stand at offsets of the owner; staged blocks have none
 abbrev pub KeepsOffsets : ℕ → ℕ → ℕ → Type 0
-KeepsOffsets owner off len = (IsInode owner → off + len ≤ OFFSETS) × (owner ≡ STAGING_OWNER → off ≡ 0)
+KeepsOffsets owner off len = (IsInode owner → off + len ≤ OFFSETS) × (owner ≡ OWN_COW → off ≡ 0)
 
 -- an exchange of some blocks; of one file the two ranges don't meet
 pub record IsSwap (file : FileNo) (off : ℕ) (other : FileNo) (other_off len : ℕ) : Type 0 where

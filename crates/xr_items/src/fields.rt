@@ -1,7 +1,7 @@
-//! Numbers of two, four and eight bytes, the lowest byte first, written one after the other and read at their places.
+//! Numbers of two, four and eight bytes, the lowest byte first, written one after the other.
 ghost use Rattle.std.specs.Prelude.{◌≡◌, ◌+◌, ◌≤◌, ◌++◌, length, drop};
 ghost use Rattle.xr_base.specs.Image.{overlaid};
-ghost use Rattle.xr_items.specs.Fields.{field_bytes, width, widths, laid, half_at, word_at, long_at};
+ghost use Rattle.xr_items.specs.Fields.{field_bytes, width, widths, laid};
 
 use byteorder::{ByteOrder, LittleEndian};
 
@@ -53,28 +53,4 @@ pub(crate) fn put_fields(fields: &[Field], out: &mut [u8]) -> usize
         place = put_field(*field, place, out);
     }
     place
-}
-
-#[tactic(auto, unfolding(crate::specs::Fields::number_at))]
-pub(crate) fn half_at(region: &[u8], place: usize) -> u16
-    requires { place + 2 ≤ length region.now }
-    ensures { result ≡ half_at region.now place }
-{
-    LittleEndian::read_u16(&region[place..])
-}
-
-#[tactic(auto, unfolding(crate::specs::Fields::number_at))]
-pub(crate) fn word_at(region: &[u8], place: usize) -> u32
-    requires { place + 4 ≤ length region.now }
-    ensures { result ≡ word_at region.now place }
-{
-    LittleEndian::read_u32(&region[place..])
-}
-
-#[tactic(auto, unfolding(crate::specs::Fields::number_at))]
-pub(crate) fn long_at(region: &[u8], place: usize) -> u64
-    requires { place + 8 ≤ length region.now }
-    ensures { result ≡ long_at region.now place }
-{
-    LittleEndian::read_u64(&region[place..])
 }

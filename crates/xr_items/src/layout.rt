@@ -25,14 +25,8 @@ pub const XMI_TYPE: u16 = 0x1248;
 
 pub const XMD_TYPE: u16 = 0x1249;
 
-/// The owner of staged blocks, -9 as XFS counts the owners that are no files.
-pub const STAGING_OWNER: u64 = 0xFFFF_FFFF_FFFF_FFF7;
-
 /// Ids are below this one.
 pub const IDS: u64 = 1 << 63;
-
-/// Sectors of a block.
-pub const BLOCK_SECTORS: u64 = 8;
 
 /// The place of the number of regions in a format region.
 pub const REGIONS_PLACE: usize = 2;

@@ -1,27 +1,27 @@
 //! Items read from their format regions.
 ghost use Rattle.std.specs.Prelude.{◌≡◌, ◌↔◌, MatchResult, IfOk, Ok, Err};
-ghost use Rattle.xr_items.specs.FirstBroken.{IsFramed, Refuses};
+ghost use Rattle.xr_items.specs.FirstBroken.{RefusesItem, IsItemFramed};
 ghost use Rattle.xr_items.specs.Items.{item_bytes};
 ghost use Rattle.xr_items.specs.Valid.{IsItem};
 
 use crate::bodies::take_body;
-use crate::fields::half_at;
 use crate::item::{Item, ItemFault, ItemKind};
 use crate::layout::REGIONS_PLACE;
+use xr_base::le16_at;
 
 /// The kind of item, by a type, a length and a number of regions that go together.
 fn take_kind(region: &[u8]) -> Result<ItemKind, ItemFault>
-    ensures { MatchResult result (λ kind. IsFramed kind region.now) (Refuses region.now) }
+    ensures { MatchResult result (λ kind. IsItemFramed kind region.now) (RefusesItem region.now) }
 {
     let unknown = ItemFault::ItemType { place: 0 };
     if region.len() < 4 {
         return Err(unknown);
     }
-    let kind = ItemKind::of_code(half_at(region, 0)).ok_or(unknown)?;
+    let kind = ItemKind::of_code(le16_at(region, 0)).ok_or(unknown)?;
     if region.len() != kind.length() {
         return Err(ItemFault::Size { place: 0 });
     }
-    if half_at(region, REGIONS_PLACE) != kind.regions() {
+    if le16_at(region, REGIONS_PLACE) != kind.regions() {
         return Err(ItemFault::Size {
             place: REGIONS_PLACE,
         });
@@ -35,7 +35,7 @@ fn take_kind(region: &[u8]) -> Result<ItemKind, ItemFault>
 pub fn take(region: &[u8]) -> Result<Item, ItemFault>
     ensures ok { IfOk result (λ item. IsItem item × (region.now ≡ item_bytes item)) }
     ensures complete { (item : Item) → IsItem item → region.now ≡ item_bytes item → result ≡ Ok item }
-    ensures refused { (fault : ItemFault) → (result ≡ Err fault) ↔ Refuses region.now fault }
+    ensures refused { (fault : ItemFault) → (result ≡ Err fault) ↔ RefusesItem region.now fault }
 {
     let kind = take_kind(region)?;
     match take_body(kind, region) {

@@ -2,15 +2,15 @@
 ghost use Rattle.std.specs.Prelude.{◌≡◌, ◌≢◌, ◌+◌, ◌<◌, ◌≤◌, ◌↔◌, IsTrue, OnOk, IfErr, length, slice_index};
 ghost use Rattle.xr_base.specs.Address.{IsData, IsGoodRun, address_of};
 ghost use Rattle.xr_headers.specs.FirstWrong.{IsFirst};
-ghost use Rattle.xr_items.specs.Fields.{word_at};
-ghost use Rattle.xr_items.specs.FirstBroken.{AllKept, IsFirstBroken, IsOwner, MayBeginAt, EndsInOffsets, AreSwappable, run_of};
+ghost use Rattle.xr_base.specs.Fields.{le32_at};
+ghost use Rattle.xr_items.specs.FirstBroken.{AllKept, IsFirstBroken, MayBeginAt, EndsInOffsets, AreSwappable, run_of, IsKnownOwner};
 ghost use Rattle.xr_items.specs.Valid.{IsId, IsInode, IsBufferBlock, IsBufferSector};
 ghost use Rattle.xr_base.specs.declared.geometry.TheConstants.{OFFSETS};
 
-use crate::layout::{BLOCK_SECTORS, IDS, STAGING_OWNER};
+use crate::layout::IDS;
 use xr_base::geometry::{
-    FILE_BLOCKS, FILES, FIRST_DATA_BLOCK, FIRST_FILE_BLOCK, FIRST_GROUP_BLOCK, FIRST_INODE,
-    GROUP_BLOCKS, GROUPS, OFFSETS,
+    BLOCK_SECTORS, FILE_BLOCKS, FILES, FIRST_DATA_BLOCK, FIRST_FILE_BLOCK, FIRST_GROUP_BLOCK,
+    FIRST_INODE, GROUP_BLOCKS, GROUPS, OFFSETS, OWN_COW,
 };
 use xr_base::{Addr, FileNo, Run, good_run, is_data};
 
@@ -28,10 +28,10 @@ pub(crate) fn first_broken(rows: &[(usize, bool)]) -> Result<(), usize>
 }
 
 /// The error is the place of the first of four bytes that isn't zero.
-#[tactic(auto, unfolding(crate::specs::Fields::number_at))]
+#[tactic(auto, unfolding(xr_base::specs::Fields::le_at))]
 pub(crate) fn take_zeros(region: &[u8], at: usize) -> Result<(), usize>
     requires { at + 4 ≤ length region.now }
-    ensures ok { OnOk result (word_at region.now at ≡ 0) }
+    ensures ok { OnOk result (le32_at region.now at ≡ 0) }
     ensures first { IfErr result (IsFirst (λ k. (at ≤ k) × (k < at + 4) × (slice_index region.now k ≢ 0))) }
 {
     for place in at..at + 4 {
@@ -79,7 +79,7 @@ fn is_buffer_block(block: u64) -> bool
 pub(crate) fn is_buffer_sector(sector: u64) -> bool
     ensures { IsTrue result ↔ IsBufferSector sector }
 {
-    sector % BLOCK_SECTORS == 0 && is_buffer_block(sector / BLOCK_SECTORS)
+    sector % u64::from(BLOCK_SECTORS) == 0 && is_buffer_block(sector / u64::from(BLOCK_SECTORS))
 }
 
 pub(crate) fn is_data_at(start: u64) -> bool
@@ -110,16 +110,16 @@ pub(crate) fn run_in(start: u64, len: u32) -> Run
 }
 
 pub(crate) fn is_owner(owner: u64) -> bool
-    ensures { IsTrue result ↔ IsOwner owner }
+    ensures { IsTrue result ↔ IsKnownOwner owner }
 {
-    owner == STAGING_OWNER || is_inode(owner)
+    owner == OWN_COW || is_inode(owner)
 }
 
 /// Whether some length suits the owner and the offset.
 pub(crate) fn may_begin(owner: u64, off: u64) -> bool
     ensures { IsTrue result ↔ MayBeginAt owner off }
 {
-    (owner != STAGING_OWNER || off == 0) && (!is_inode(owner) || off < u64::from(OFFSETS))
+    (owner != OWN_COW || off == 0) && (!is_inode(owner) || off < u64::from(OFFSETS))
 }
 
 pub(crate) fn is_range(off: u64, len: u64) -> bool

@@ -1,12 +1,12 @@
 //! Each item with its bytes written out, each refusal, and each call once.
 
-use crate::layout::{LONGEST_REGION, STAGING_OWNER};
+use crate::layout::LONGEST_REGION;
 use crate::{
     CountKind, DoneOf, Item, ItemFault, MapKind, OwnKind, Placed, Trans, Work, follows, put, take,
 };
 use std::process::Abort;
 use std::test::Fail;
-use xr_base::geometry::BLOCK_BYTES;
+use xr_base::geometry::{BLOCK_BYTES, OWN_COW};
 use xr_base::{Addr, FileNo, Run, good_run};
 
 const COUNT: &[u8] =
@@ -75,7 +75,7 @@ fn takes_and_puts_each_item(rt: HostRuntime) {
     is_taken_and_put(&rt, OWN, begun(9, unmapped), 0);
     let staged = Work::Own {
         kind: OwnKind::Alloc,
-        owner: STAGING_OWNER,
+        owner: OWN_COW,
         off: 0,
         run: run(512, 1536),
     };

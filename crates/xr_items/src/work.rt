@@ -3,8 +3,8 @@ ghost use Rattle.std.specs.Prelude.{◌≡◌, MatchOption};
 ghost use Rattle.xr_items.specs.Items.{own_code, count_code, map_code};
 ghost use Rattle.xr_items.specs.Valid.{SuitsOwner};
 
-use crate::layout::STAGING_OWNER;
 use crate::rules::is_inode;
+use xr_base::geometry::OWN_COW;
 use xr_base::{FileNo, Run};
 
 /// What happens to the owners of the blocks of a run. The first two are for files, the others for staged blocks.
@@ -33,7 +33,7 @@ pub enum MapKind {
 }
 
 /// What an intent asks for. Offsets and lengths are in blocks. A work is valid where its run is good, its ranges end at or
-/// before `OFFSETS`, and its owner, an inode number or `STAGING_OWNER` with offset 0, suits its kind.
+/// before `OFFSETS`, and its owner, an inode number or `OWN_COW` with offset 0, suits its kind.
 #[derive(Clone, Copy, Debug, PartialEq, Eq)]
 pub enum Work {
     /// Gives the run back to the free blocks.
@@ -90,8 +90,8 @@ impl OwnKind {
         match code {
             2 if is_inode(owner) => Some(OwnKind::MapShared),
             4 if is_inode(owner) => Some(OwnKind::UnmapShared),
-            7 if owner == STAGING_OWNER => Some(OwnKind::Alloc),
-            8 if owner == STAGING_OWNER => Some(OwnKind::Free),
+            7 if owner == OWN_COW => Some(OwnKind::Alloc),
+            8 if owner == OWN_COW => Some(OwnKind::Free),
             _ => None,
         }
     }

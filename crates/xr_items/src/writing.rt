@@ -10,12 +10,12 @@ ghost use Rattle.xr_items.specs.declared.layout.TheConstants.{LONGEST_REGION};
 use crate::fields::{Field, put_fields};
 use crate::item::{DoneOf, Item};
 use crate::layout::{
-    BLOCK_SECTORS, BUD_TYPE, BUF_TYPE, BUI_TYPE, CUD_TYPE, CUI_TYPE, EFD_TYPE, EFI_TYPE,
-    INODE_TYPE, RUD_TYPE, RUI_TYPE, WHOLE_BLOCK, XMD_TYPE, XMI_TYPE,
+    BUD_TYPE, BUF_TYPE, BUI_TYPE, CUD_TYPE, CUI_TYPE, EFD_TYPE, EFI_TYPE, INODE_TYPE, RUD_TYPE,
+    RUI_TYPE, WHOLE_BLOCK, XMD_TYPE, XMI_TYPE,
 };
 use crate::work::Work;
 use xr_base::Run;
-use xr_base::geometry::FIRST_INODE;
+use xr_base::geometry::{BLOCK_SECTORS, FIRST_INODE};
 
 fn put_short(code: u16, regions: u16, number: u64, out: &mut [u8]) -> usize
     requires { LONGEST_REGION ≤ length out.old }

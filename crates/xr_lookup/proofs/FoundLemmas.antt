@@ -6,10 +6,10 @@ use Rattle.std.specs.List.{All, AllPairs, find}
 use Rattle.std.specs.Option.{option_or}
 use Rattle.std.specs.Ordering.{is_gt, is_lt, ordering_reverse}
 use Rattle.std.specs.declared.cmp.Ordering.TheVariants.{Less}
-use Rattle.xr_lookup.specs.declared.cut.Cut.{Cut}
-use Rattle.xr_blocks.specs.Form.{Form, IsForm}
+use Rattle.xr_block.specs.declared.bound.Cut.{Cut}
+use Rattle.xr_kinds.specs.Form.{Form, IsForm}
 use Rattle.xr_lookup.specs.Lookup.{FindsGreatest, FindsLeast, cut_behind, is_wanted, overlaps}
-use Rattle.xr_lookup.proofs.PartLemmas.{last_append, pairs_first, pairs_right}
+use Rattle.xr_block.specs.PartLaws.{last_append, pairs_first, pairs_right}
 
 -- none is below the first
 pub first_least : {X : Type 0} (form : Form X) (laws : IsForm form) (x : X) (xs : List X) → AllPairs (λ (a b : X). form.order a b ≡ Less) (x ∷ xs)

@@ -8,11 +8,11 @@ use Rattle.std.specs.List.{All, Contains, flat_map}
 use Rattle.std.specs.Ordering.{is_gt, is_lt, nat_cmp, ordering_reverse}
 use Rattle.std.specs.declared.cmp.Ordering.{Ordering}
 use Rattle.std.specs.declared.cmp.Ordering.TheVariants.{Less, Equal, Greater}
-use Rattle.xr_blocks.specs.Form.{Form, IsForm}
-use Rattle.xr_blocks.specs.Rows.{AreRowsOf, Held, greater_key, greatest_key, half, key_held, key_of_entries, key_of_records, named_below}
-use Rattle.xr_blocks.specs.Tree.{records_under}
-use Rattle.xr_blocks.specs.TreeBlock.{Entry, Site}
-use Rattle.xr_lookup.specs.UnderLaws.{child_in_row, half_some, has_first, leaf_records, named_at, node_records}
+use Rattle.xr_kinds.specs.Form.{Form, IsForm}
+use Rattle.xr_block.specs.Rows.{AreRowsOf, Held, greater_key, greatest_key, half, key_held, key_of_entries, key_of_records, named_below}
+use Rattle.xr_block.specs.Tree.{records_under}
+use Rattle.xr_block.specs.TreeBlock.{Entry, Site}
+use Rattle.xr_block.specs.UnderLaws.{child_in_row, half_some, has_first, leaf_records, named_at, node_records}
 
 -- a key isn't above another
 abbrev pub IsUpTo : List ℕ → List ℕ → Type 0

@@ -4,17 +4,17 @@ use Rattle.std.proofs.lemmas.Bool.Decides.{nat_tests}
 use Rattle.byteorder.specs.Endian.{big_number}
 use Rattle.std.specs.List.{All, find}
 use Rattle.xr_lookup.specs.declared.lookup.Wanted.{Wanted}
-use Rattle.xr_blocks.specs.declared.mapping.Mapping.{Mapping}
-use Rattle.xr_blocks.specs.declared.span.Span.{Span}
-use Rattle.xr_blocks.specs.Form.{Form}
+use Rattle.xr_kinds.specs.declared.mapping.Mapping.{Mapping}
+use Rattle.xr_kinds.specs.declared.span.Span.{Span}
+use Rattle.xr_kinds.specs.Form.{Form}
 use Rattle.xr_lookup.specs.Lookup.{is_wanted}
-use Rattle.xr_blocks.specs.Spans.{meet}
-use Rattle.xr_lookup.proofs.PartLemmas.{find_none}
-use Rattle.xr_blocks.specs.declared.reference.Reference.{Reference}
-use Rattle.xr_blocks.specs.BigEndianLaws.{reads_alone}
-use Rattle.xr_blocks.specs.Mapping.{is_mapping, mapping_form, mapping_span}
+use Rattle.xr_kinds.specs.Spans.{meet}
+use Rattle.xr_block.specs.PartLaws.{find_none}
+use Rattle.xr_kinds.specs.declared.reference.Reference.{Reference}
+use Rattle.xr_kinds.specs.BigEndianLaws.{reads_alone}
+use Rattle.xr_kinds.specs.Mapping.{is_mapping, mapping_form, mapping_span}
 use Rattle.xr_lookup.specs.Reach.{IsInside, IsUnderKeys, between, next_offset, next_start, offset_in}
-use Rattle.xr_blocks.specs.Reference.{first_word, is_reference, reference_form, reference_span}
+use Rattle.xr_kinds.specs.Reference.{first_word, is_reference, reference_form, reference_span}
 
 offset_small : (y : Mapping) → is_mapping y ≡ true → (0 < y.len) × (y.off + y.len ≤ 512)
 offset_small y good = grind (arith, nat_tests)

@@ -1,6 +1,2 @@
-pub mod Cuts
-pub mod Leaf
 pub mod Lookup
 pub mod Reach
-pub mod Under
-pub mod UnderLaws

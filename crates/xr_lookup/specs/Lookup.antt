@@ -3,11 +3,11 @@ use Rattle.std.specs.Prelude.{◌≡◌, ◌&&◌, Bool, true, false, not, Optio
 use Rattle.std.specs.List.{All, Contains}
 use Rattle.std.specs.Option.{MatchOption}
 use Rattle.std.specs.Ordering.{is_gt, is_le, is_lt}
-use Rattle.xr_lookup.specs.declared.cut.Cut.{Cut}
-use Rattle.xr_lookup.specs.declared.cut.Cut.TheVariants.{Behind, Start}
+use Rattle.xr_block.specs.declared.bound.Cut.{Cut}
+use Rattle.xr_block.specs.declared.bound.Cut.TheVariants.{Behind, Start}
 use Rattle.xr_lookup.specs.declared.lookup.Wanted.{Wanted}
-use Rattle.xr_lookup.specs.Cuts.{is_before}
-use Rattle.xr_blocks.specs.Form.{Form}
+use Rattle.xr_block.specs.Bounds.{is_before}
+use Rattle.xr_kinds.specs.Form.{Form}
 
 -- which records aren't above one, and which aren't below it
 abbrev pub up_to : {X : Type 0} → Form X → X → X → Bool

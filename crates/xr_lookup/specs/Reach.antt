@@ -4,11 +4,11 @@ use Rattle.std.specs.Borrow.{Bor}
 use Rattle.std.specs.Cmp.Lexicographic.{slice_cmp}
 use Rattle.std.specs.Ordering.{is_gt, is_lt, nat_cmp}
 use Rattle.std.specs.declared.cmp.Ordering.TheVariants.{Less}
-use Rattle.xr_blocks.specs.declared.span.Span.{Span}
+use Rattle.xr_kinds.specs.declared.span.Span.{Span}
 use Rattle.byteorder.specs.Endian.{big_number}
 use Rattle.xr_base.specs.declared.geometry.TheConstants.{OFFSETS}
-use Rattle.xr_blocks.specs.Form.{Form}
-use Rattle.xr_blocks.specs.Spans.{span, end_of}
+use Rattle.xr_kinds.specs.Form.{Form}
+use Rattle.xr_kinds.specs.Spans.{span, end_of}
 
 -- a valid record with a low key comes behind this one, and the two may stand in one tree
 pub record IsBeforeKey {X : Type 0} (form : Form X) (x : X) (key : List ℕ) : Type 0 where

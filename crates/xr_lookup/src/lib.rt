@@ -1,10 +1,7 @@
 //! Lookups in trees, each on one way from the root down to the leaves.
 #![tactic(auto)]
 
-pub mod cut;
-pub mod leaf;
 mod lookup;
-pub mod node;
 mod reach;
 mod steps;
 #[cfg(test)]

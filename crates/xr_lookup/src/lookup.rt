@@ -1,19 +1,20 @@
 //! Lookups in a tree, each on one way from the root down to the leaves.
 ghost use Rattle.std.specs.Prelude.{◌≡◌, ◌+◌, ◌<◌, None, false, IsTrue, length, slice_index_or, reverse};
 ghost use Rattle.std.specs.List.{find, slice_get};
-ghost use Rattle.xr_lookup.specs.Cuts.{IsPlaceOf, entry_is_before, is_before};
+ghost use Rattle.xr_block.specs.Bounds.{IsPlaceOf, entry_is_before, is_before};
 ghost use Rattle.xr_lookup.specs.Lookup.{FindsGreatest, FindsLeast, cut_behind, from, is_wanted, overlaps, up_to};
-ghost use Rattle.xr_blocks.specs.Overlay.{block_at};
-ghost use Rattle.xr_blocks.specs.Tree.{IsTreeIn, tree_records};
-ghost use Rattle.xr_blocks.specs.TreeBlock.{Entry, entries_in, records_in};
-ghost use Rattle.xr_lookup.specs.Under.{IsUnder};
+ghost use Rattle.xr_pool.specs.Overlay.{block_at};
+ghost use Rattle.xr_block.specs.Tree.{IsTreeIn, tree_records};
+ghost use Rattle.xr_block.specs.TreeBlock.{Entry, entries_in, records_in};
+ghost use Rattle.xr_block.specs.Under.{IsUnder};
 
-use crate::cut::Cut;
 use crate::reach::Reach;
 use crate::steps::{
     child_count, child_of, children_before, reach_of, record_count, record_of, records_before,
 };
-use xr_blocks::{Overlay, Record};
+use xr_block::bound::Cut;
+use xr_kinds::Record;
+use xr_pool::Overlay;
 
 /// What is looked for from a place of the order on: any record, or one that meets another.
 #[derive(Clone, Copy)]

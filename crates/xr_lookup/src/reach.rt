@@ -1,17 +1,17 @@
 //! Which blocks or offsets the records under a child of a node may have, as the keys of the node tell it. So a search for
 //! records that meet a run passes over the other children.
 ghost use Rattle.std.specs.Prelude.{◌≡◌, ◌≤◌, IfSome, length};
-ghost use Rattle.xr_blocks.specs.FreeRuns.{block_span, size_span};
-ghost use Rattle.xr_blocks.specs.Mapping.{mapping_span};
+ghost use Rattle.xr_kinds.specs.FreeRuns.{block_span, size_span};
+ghost use Rattle.xr_kinds.specs.Mapping.{mapping_span};
 ghost use Rattle.xr_lookup.specs.Reach.{IsInside, IsUnderKeys, between, next_key, next_offset, next_start, offset_in};
-ghost use Rattle.xr_blocks.specs.Reference.{reference_span};
-ghost use Rattle.xr_blocks.specs.Reverse.{reverse_span};
-ghost use Rattle.xr_blocks.specs.Spans.{meet};
-ghost use Rattle.xr_blocks.specs.declared.span.Span.{Span};
+ghost use Rattle.xr_kinds.specs.Reference.{reference_span};
+ghost use Rattle.xr_kinds.specs.Reverse.{reverse_span};
+ghost use Rattle.xr_kinds.specs.Spans.{meet};
+ghost use Rattle.xr_kinds.specs.declared.span.Span.{Span};
 
 use byteorder::{BigEndian, ByteOrder};
 use xr_base::geometry::{GROUP_BLOCKS, OFFSETS};
-use xr_blocks::{ByBlock, BySize, Mapping, Record, Reference, Reverse, STAGED, Span};
+use xr_kinds::{ByBlock, BySize, Mapping, Record, Reference, Reverse, STAGED, Span};
 
 /// A record of which the keys of a node tell how far those under a child reach.
 pub trait Reach: Record {

@@ -1,20 +1,20 @@
 //! The steps of a lookup: what is read of a block that it comes to.
-ghost use Rattle.std.specs.Prelude.{◌≡◌, ◌+◌, ◌<◌, ◌≤◌, length, slice_index_or};
+ghost use Rattle.std.specs.Prelude.{◌≡◌, ◌+◌, ◌<◌, ◌≤◌, IfSome, length, slice_index_or};
 ghost use Rattle.std.specs.List.{All, slice_get};
-ghost use Rattle.xr_lookup.specs.Cuts.{IsPlaceOf, entry_is_before, is_before};
-ghost use Rattle.xr_node.specs.Node.{high_key_in, low_key_from, low_key_in};
-ghost use Rattle.xr_blocks.specs.Overlay.{block_at};
-ghost use Rattle.xr_lookup.specs.Reach.{IsInside, IsUnderKeys};
-ghost use Rattle.xr_blocks.specs.Tree.{tree_records};
-ghost use Rattle.xr_blocks.specs.TreeBlock.{Entry, count_in, entries_in, records_in};
-ghost use Rattle.xr_lookup.specs.Under.{IsUnder};
+ghost use Rattle.xr_block.specs.Bounds.{IsPlaceOf, entry_is_before, is_before};
+ghost use Rattle.xr_block.specs.NodeEntries.{high_key_in, low_key_from, low_key_in};
+ghost use Rattle.xr_pool.specs.Overlay.{block_at};
+ghost use Rattle.xr_lookup.specs.Reach.{IsInside, IsUnderKeys, next_key};
+ghost use Rattle.xr_block.specs.Tree.{tree_records};
+ghost use Rattle.xr_block.specs.TreeBlock.{Entry, count_in, entries_in, records_in};
+ghost use Rattle.xr_block.specs.Under.{IsUnder};
 
-use crate::cut::Cut;
-use crate::leaf::place_of;
-use crate::node::{child_place, low_key_from};
 use crate::reach::Reach;
-use xr_blocks::{Block, Overlay, Record, Span};
-use xr_node::read::{child_at, count_of, high_key_at, low_key_at, record_at};
+use xr_block::bound::Cut;
+use xr_block::read::{child_at, count_of, high_key_at, low_key_at, record_at};
+use xr_block::search::{child_place, record_place};
+use xr_kinds::{Record, Span};
+use xr_pool::{Block, Overlay};
 
 /// The block of a child of a node, whose level is given.
 pub(crate) fn child_of<R: Record>(over: &Overlay, n: u32, level: u32, k: usize) -> u32
@@ -57,7 +57,7 @@ pub(crate) fn records_before<R: Record>(over: &Overlay, n: u32, cut: &Cut<R>) ->
     requires { IsUnder R.form over.now 0 n }
     ensures { IsPlaceOf (is_before R.form cut.now) (records_in R.form (block_at over.now n)) result }
 {
-    place_of(over.block(n), cut)
+    record_place(over.block(n), cut)
 }
 
 /// A record of a leaf.
@@ -67,6 +67,19 @@ pub(crate) fn record_of<R: Record>(over: &Overlay, n: u32, k: usize) -> Option<R
     ensures { result ≡ slice_get (records_in R.form (block_at over.now n)) k }
 {
     record_at(over.block(n), k)
+}
+
+/// The low key of a child, if the node has so many.
+fn low_key_from<R: Record>(block: &Block, k: usize) -> Option<&[u8]>
+    requires { count_in block.now ≤ R.form.node_max }
+    ensures long { IfSome result (λ key. length key.now ≡ R.LOW) }
+    ensures value { next_key result ≡ low_key_from R.form k block.now }
+{
+    if k < count_of(block) {
+        Some(low_key_at::<R>(block, k))
+    } else {
+        None
+    }
 }
 
 /// A run that holds the blocks or offsets of all records under a child, by the keys of a node.

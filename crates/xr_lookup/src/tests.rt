@@ -2,7 +2,7 @@
 
 use crate::reach::Reach;
 use std::process::Abort;
-use xr_blocks::{ByBlock, BySize, Mapping, Reference, Reverse};
+use xr_kinds::{ByBlock, BySize, Mapping, Reference, Reverse};
 
 /// The records under a child with these keys, the last of its node, reach from one number up to another.
 fn last_reaches<R: Reach>(rt: &impl Abort, low: &[u8], high: &[u8], start: u32, end: u32) {

@@ -8,7 +8,7 @@ use Rattle.xr_maps.specs.declared.records.Counted.{Counted}
 use Rattle.xr_maps.specs.Runs.{Span}
 use Rattle.xr_maps.specs.Records.{span_of_run}
 use Rattle.xr_maps.specs.Counts.{HasCount, HaveOneCount, IsEqualLen, AreRunsOfCounts}
-use Rattle.xr_maps.proofs.RunsBelow.{AreRunsBelow, BeginsRun, none_below, runs_push, runs_skip, runs_all}
+use Rattle.xr_maps.proofs.RunLemmas.{AreRunsBelow, BeginsRun, none_below, runs_push, runs_skip, runs_all}
 
 abbrev pub spans_of : List Counted → List Span
 spans_of records = map span_of_run (map (λ r. r.run) records)

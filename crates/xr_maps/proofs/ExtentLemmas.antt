@@ -10,7 +10,7 @@ use Rattle.xr_maps.specs.declared.records.Extent.{Extent}
 use Rattle.xr_maps.specs.Records.{RunsOn, AreExtentsOf, span_of_extent}
 use Rattle.xr_maps.specs.Tables.{slot_of}
 use Rattle.xr_maps.specs.Extents.{IsExtentLen, AreHoles, IsNextExtent}
-use Rattle.xr_maps.proofs.RunsBelow.{AreRunsBelow, BeginsRun, none_below, runs_push, runs_skip, runs_all}
+use Rattle.xr_maps.proofs.RunLemmas.{AreRunsBelow, BeginsRun, none_below, runs_push, runs_skip, runs_all}
 
 pub record AreExtentsBelow (slots : ℕ → Option Addr) (n : ℕ) (extents : List Extent) : Type 0 where
   pub runs : AreRunsBelow (λ off. IsSome (slots off)) (RunsOn slots) n (map span_of_extent extents)

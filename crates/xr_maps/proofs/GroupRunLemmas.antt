@@ -9,7 +9,7 @@ use Rattle.xr_maps.specs.FileMaps.{FileMaps}
 use Rattle.xr_maps.specs.Records.{owner_count, span_of_run, IsCounted, AreCountedAlike, AreCountedRuns, AreReferenceRecords}
 use Rattle.xr_maps.specs.Counts.{AreOwnerCounts, HasCount, HaveOneCount, AreRunsOfCounts, first_data_of}
 use Rattle.xr_maps.specs.Runs.{IsLongestRun}
-use Rattle.xr_maps.proofs.RunsBelow.{runs_same}
+use Rattle.xr_maps.proofs.RunLemmas.{runs_same}
 
 module _ (maps : FileMaps) (group : ℕ) (counts : List ℕ) (P : ℕ → Type 0) where
   count_at : AreOwnerCounts maps group counts → (k : ℕ) → first_data_of group ≤ k → k < first_data_of group + DATA_BLOCKS

@@ -1,12 +1,4 @@
-pub mod Growing
-pub mod Headers
-pub mod Holding
-pub mod Overlays
-pub mod Moving
-pub mod Pushing
-pub mod Unsealed
-pub mod Sealed
-pub mod Sectors
-pub mod Stepping
-pub mod Streaming
-pub mod OneWay
+pub mod GrowthLemmas
+pub mod PushLemmas
+pub mod SectorLemmas
+pub mod StreamLemmas

@@ -11,8 +11,9 @@ use Rattle.xr_record.specs.declared.operation.Sort.{Sort}
 use Rattle.xr_record.specs.declared.rules.OpKind.{OpKind}
 use Rattle.xr_record.specs.declared.rules.Stage.{Stage}
 use Rattle.xr_record.specs.declared.rules.Stage.TheVariants as stage
-use Rattle.xr_record.specs.Operations.{AreBytes, fields, sort_of}
-use Rattle.xr_record.specs.Rules.{State, AtEntry, AtHeader, AtRegion, AtPart, Breaks, Held, IsPartial, body_fault, goes_on, header_fault}
+use Rattle.xr_record.specs.Operations.{fields, sort_of}
+use Rattle.xr_base.specs.Fields.{AreBytes}
+use Rattle.xr_record.specs.Rules.{State, AtEntry, AtHeader, AtRegion, AtPart, Breaks, IsPartial, body_fault, goes_on, header_fault, ReaderState}
 
 -- how many bytes of the open region stand in operations that are whole
 abbrev pub front_of : Stage → ℕ
@@ -30,7 +31,7 @@ state_at (stage.Cut tid count front) regions body = AtPart tid count regions (ta
 abbrev pub region_items : List (Vec ℕ) → List (List ℕ)
 region_items regions = map (λ region. region.items) regions
 
-abbrev pub held_in : Kept → Held
+abbrev pub held_in : Kept → ReaderState
 held_in k = record {
   place = k.place;
   state = state_at k.stage (region_items k.regions.items) k.body.items;
@@ -38,16 +39,16 @@ held_in k = record {
 }
 
 -- what testing a header comes to: its sort, or the rule that it breaks
-abbrev pub IsTested : State → Fields → Result Sort OpKind → Type 0
-IsTested state f (Ok sort) = (header_fault state f ≡ None) × (sort_of f.client f.flags ≡ Some sort)
-IsTested state f (Err kind) = header_fault state f ≡ Some kind
+abbrev pub IsHeaderSort : State → Fields → Result Sort OpKind → Type 0
+IsHeaderSort state f (Ok sort) = (header_fault state f ≡ None) × (sort_of f.client f.flags ≡ Some sort)
+IsHeaderSort state f (Err kind) = header_fault state f ≡ Some kind
 
 -- there is room for the number of regions where it is to be read
-abbrev pub HasCount : Stage → ℕ → Type 0
-HasCount stage.Between len = Unit {0}
-HasCount (stage.Begun tid) len = len ≡ 16
-HasCount (stage.Inside tid count) len = Unit {0}
-HasCount (stage.Cut tid count front) len = Unit {0}
+abbrev pub HasCountBytes : Stage → ℕ → Type 0
+HasCountBytes stage.Between len = Unit {0}
+HasCountBytes (stage.Begun tid) len = len ≡ 16
+HasCountBytes (stage.Inside tid count) len = Unit {0}
+HasCountBytes (stage.Cut tid count front) len = Unit {0}
 
 -- the header is whole before there is a body, and the body has no more bytes than the header says
 pub record IsGrowing (k : Kept) : Type 0 where
@@ -63,7 +64,7 @@ pub record IsKept (k : Kept) : Type 0 where
   pub right : OPERATION_BYTES ≤ length k.header.items → header_fault (held_in k).state (fields k.header.items) ≡ None
 
 -- bytes were added to those of the operation that isn't whole
-pub record IsGrown (old new : Kept) (taken : List ℕ) : Type 0 where
+pub record TakesBytes (old new : Kept) (taken : List ℕ) : Type 0 where
   pub growing : IsGrowing new
   pub place : new.place ≡ old.place
   pub state : (held_in new).state ≡ (held_in old).state
@@ -77,7 +78,7 @@ pub record Applies (old new : Kept) (sort : Sort) (tid : ℕ) (entry : Option En
   pub place : new.place ≡ old.place
 
 -- the operation is whole and its header right
-pub record IsWhole (k : Kept) (f : Fields) (sort : Sort) : Type 0 where
+pub record IsWholeOperation (k : Kept) (f : Fields) (sort : Sort) : Type 0 where
   pub header : length k.header.items ≡ OPERATION_BYTES
   pub fields_are : f ≡ fields k.header.items
   pub whole : length k.body.items ≡ front_of k.stage + f.len
@@ -86,7 +87,7 @@ pub record IsWhole (k : Kept) (f : Fields) (sort : Sort) : Type 0 where
   pub small : AreBytes k.header.items
 
 -- an operation was whole, and made this of what was open
-pub record Completes (old new : Held) (entry : Option Entry) : Type 0 where
+pub record Completes (old new : ReaderState) (entry : Option Entry) : Type 0 where
   pub sort : Sort
   pub header : OPERATION_BYTES ≤ length old.rest
   pub whole : length old.rest ≡ OPERATION_BYTES + (fields old.rest).len
@@ -99,10 +100,10 @@ pub record Completes (old new : Held) (entry : Option Entry) : Type 0 where
   pub small : AreBytes old.rest
 
 -- it isn't whole yet, and right so far; or it was whole
-abbrev pub Settles : Held → Held → Option Entry → Type 0
+abbrev pub Settles : ReaderState → ReaderState → Option Entry → Type 0
 Settles old new entry = ((new ≡ old) × (entry ≡ None) × IsPartial old.state old.rest) ⊎ Completes old new entry
 
 -- the bytes so far break a rule; want of memory needs no cause
-abbrev pub IsFault : Held → FeedFault → Type 0
+abbrev pub IsFault : ReaderState → FeedFault → Type 0
 IsFault held (Op place kind) = (place ≡ held.place) × Breaks held.state held.rest kind
 IsFault held NoMemory = Unit {0}

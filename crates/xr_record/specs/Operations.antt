@@ -33,8 +33,8 @@ sort_of client flags =
     else (if flags == MIDDLE_FLAGS then Some Middle else (if flags == LAST_FLAGS then Some Last else (if flags == COMMIT then Some Commit else None))))))
 
 -- an operation's bytes: its header of twelve, and its body
-unfoldable pub bytes_of : ℕ → ℕ → ℕ → List ℕ → List ℕ
-bytes_of tid client flags body = big_bytes 4 tid ++ (big_bytes 4 (length body) ++ (client ∷ flags ∷ 0 ∷ 0 ∷ body))
+unfoldable pub raw_operation : ℕ → ℕ → ℕ → List ℕ → List ℕ
+raw_operation tid client flags body = big_bytes 4 tid ++ (big_bytes 4 (length body) ++ (client ∷ flags ∷ 0 ∷ 0 ∷ body))
 
 pub record Operation : Type 0 where
   pub tid : ℕ
@@ -42,10 +42,7 @@ pub record Operation : Type 0 where
   pub body : List ℕ
 
 abbrev pub operation_bytes : Operation → List ℕ
-operation_bytes o = bytes_of o.tid (client_of o.sort) (flags_of o.sort) o.body
-
-abbrev pub AreBytes : List ℕ → Type 0
-AreBytes bytes = (k : ℕ) → slice_index bytes k < 256
+operation_bytes o = raw_operation o.tid (client_of o.sort) (flags_of o.sort) o.body
 
 -- what the header at the front of some bytes says
 abbrev pub fields : List ℕ → Fields

@@ -1,8 +1,9 @@
 -- What a packer writes of a region, and that this is what the grammar says.
 use Rattle.std.specs.Prelude.{◌≡◌, ◌==◌, ◌⊎◌, ◌<◌, ◌≤◌, ◌+◌, ◌-◌, ◌*◌, ℕ, List, [], ◌∷◌, ◌++◌, length, min, take, drop, if◌then◌else◌}
 use Rattle.std.specs.List.{AllByRecursion}
-use Rattle.xr_record.specs.declared.layout.TheConstants.{COMMIT, CONTINUE, LAST_FLAGS, LOG_CLIENT, MIDDLE_FLAGS, MOST_BODY_BYTES, OPERATION_BYTES, START, TRANSACTION_CLIENT, UNMOUNT}
-use Rattle.xr_record.specs.Operations.{bytes_of, operation_bytes}
+use Rattle.xr_record.specs.declared.layout.TheConstants.{COMMIT, CONTINUE, LAST_FLAGS, LOG_CLIENT, MIDDLE_FLAGS, OPERATION_BYTES, START, TRANSACTION_CLIENT, UNMOUNT}
+use Rattle.xr_base.specs.declared.layout.TheConstants.{MAX_BODY_BYTES}
+use Rattle.xr_record.specs.Operations.{operation_bytes, raw_operation}
 use Rattle.xr_record.specs.Stream.{HasBytes, all_bytes, commit, joined, region, start, unmount, unmount_body}
 
 -- a body, and how many operations it holds
@@ -12,7 +13,7 @@ pub record Packed : Type 0 where
 
 -- the bytes that are free
 abbrev pub room_in : List ℕ → ℕ
-room_in body = MOST_BODY_BYTES - length body
+room_in body = MAX_BODY_BYTES - length body
 
 -- where an operation stops in a region of so many bytes
 abbrev pub stop_of : ℕ → ℕ → ℕ → ℕ
@@ -26,7 +27,7 @@ part_flags flags from stop total =
 -- the operation of a part
 abbrev pub part_bytes : ℕ → ℕ → ℕ → List ℕ → ℕ → ℕ → List ℕ
 part_bytes tid client flags region from stop =
-    bytes_of tid client (part_flags flags from stop (length region)) (take (stop - from) (drop from region))
+    raw_operation tid client (part_flags flags from stop (length region)) (take (stop - from) (drop from region))
 
 -- the operations of a region that is pushed in these parts, from a place on
 abbrev pub pushed : ℕ → List ℕ → ℕ → List (List ℕ) → List ℕ
@@ -55,6 +56,6 @@ pub record Pushes (old new : Packed) (tid client flags : ℕ) (region : List ℕ
 
 -- what a packer keeps of its body's length, the memory for it, and its operations, each of which has a header
 pub record IsPacking (len capacity ops : ℕ) : Type 0 where
-  pub most : len ≤ MOST_BODY_BYTES
-  pub capacity_is : MOST_BODY_BYTES ≤ capacity
+  pub most : len ≤ MAX_BODY_BYTES
+  pub capacity_is : MAX_BODY_BYTES ≤ capacity
   pub each : OPERATION_BYTES * ops ≤ len

@@ -3,11 +3,11 @@ use Rattle.std.specs.Prelude.{◌≡◌, ◌<◌, ◌^◌, ℕ, List, ◌++◌, 
 use Rattle.xr_record.specs.declared.entry.Entry.{Entry}
 use Rattle.xr_record.specs.declared.fault.FeedFault.{FeedFault}
 use Rattle.xr_record.specs.declared.fault.FeedFault.TheVariants.{Op, NoMemory}
-use Rattle.xr_record.specs.Rules.{Held, IsBad, ReadsTo}
+use Rattle.xr_record.specs.Rules.{IsBad, ReadsTo, ReaderState}
 
 -- a reader: what it keeps, and the fault that ended it, if any did
 pub record Reading : Type 0 where
-  pub held : Held
+  pub held : ReaderState
   pub ended : Option FeedFault
 
 -- the reader goes on, and these bytes are these entries and what it keeps
@@ -21,10 +21,10 @@ IsFaultOf bytes (Op place kind) = (at : ℕ) × IsBad bytes at kind × (length b
 IsFaultOf bytes NoMemory = Unit {0}
 
 -- whatever the bytes and the entries so far, these bytes add these entries
-abbrev pub TakesOn : Held → Held → List ℕ → List Entry → Type 0
+abbrev pub TakesOn : ReaderState → ReaderState → List ℕ → List Entry → Type 0
 TakesOn old new taken entries =
     (before : List ℕ) (es : List Entry) → ReadsTo before es old → ReadsTo (before ++ taken) (es ++ entries) new
 
 -- whatever the bytes so far, with these they are bad in this way
-abbrev pub FailsOn : Held → List ℕ → FeedFault → Type 0
+abbrev pub FailsOn : ReaderState → List ℕ → FeedFault → Type 0
 FailsOn old taken fault = (before : List ℕ) (es : List Entry) → ReadsTo before es old → IsFaultOf (before ++ taken) fault

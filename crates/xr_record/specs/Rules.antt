@@ -87,12 +87,12 @@ pub record HasBody (bytes : List ℕ) : Type 0 where
   pub header : OPERATION_BYTES ≤ length bytes
   pub body : OPERATION_BYTES + (fields bytes).len ≤ length bytes
 
-abbrev pub body_in : List ℕ → List ℕ
-body_in bytes = take (fields bytes).len (drop OPERATION_BYTES bytes)
+abbrev pub operation_body : List ℕ → List ℕ
+operation_body bytes = take (fields bytes).len (drop OPERATION_BYTES bytes)
 
 abbrev pub whole_fault : State → List ℕ → Option Sort → Option OpKind
 whole_fault state bytes None = None
-whole_fault state bytes (Some sort) = body_fault state sort (body_in bytes)
+whole_fault state bytes (Some sort) = body_fault state sort (operation_body bytes)
 
 abbrev pub Breaks : State → List ℕ → OpKind → Type 0
 Breaks state bytes kind =
@@ -135,13 +135,13 @@ goes_on (AtPart own count regions part) Last tid body = ([], AtRegion own count 
 goes_on (AtPart own count regions part) sort tid body = ([], AtPart own count regions (part ++ body))
 
 -- what a reader keeps: what is open, and the place and the bytes of the operation that isn't whole
-pub record Held : Type 0 where
+pub record ReaderState : Type 0 where
   pub place : ℕ
   pub state : State
   pub rest : List ℕ
 
 -- the bytes are these entries, and then what the reader keeps
-pub record ReadsTo (bytes : List ℕ) (entries : List Entry) (held : Held) : Type 0 where
+pub record ReadsTo (bytes : List ℕ) (entries : List Entry) (held : ReaderState) : Type 0 where
   pub pieces : List Piece
   pub o : Open
   pub stream : IsStream bytes pieces o held.rest

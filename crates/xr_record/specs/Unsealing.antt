@@ -2,27 +2,25 @@
 use Rattle.std.specs.Prelude.{◌≡◌, ℕ, ◌+◌, ◌*◌, ◌<◌, ◌≤◌, List, ◌++◌, All, length, slice_range, take, drop}
 use Rattle.byteorder.specs.Endian.{big_bytes, big_number, little_number}
 use Rattle.xr_base.specs.Checksum.{checksum_of, without_four}
+use Rattle.xr_base.specs.Fields.{be32_at}
 use Rattle.xr_base.specs.Image.{part}
-use Rattle.xr_base.specs.declared.geometry.TheConstants.{LOG_SECTORS, SECTOR_BYTES}
+use Rattle.xr_base.specs.declared.geometry.TheConstants.{LOG_SECTORS, SECTOR_BYTES, CYCLES}
 use Rattle.xr_record.specs.declared.head.Head.{Head}
-use Rattle.xr_record.specs.declared.layout.TheConstants.{CHECKSUM_PLACE, CYCLES, CYCLE_PLACE, FORMAT, FORMAT_PLACE, LEN_PLACE, LSN_PLACE, MAGIC, MOST_BODY_BYTES, OPS_PLACE, PREV_PLACE, SIZE_PLACE, TAIL_PLACE, UUID_PLACE, VERSION, VERSION_PLACE, WORDS_BYTES, WORDS_PLACE, ZEROS_PLACE}
+use Rattle.xr_record.specs.declared.layout.TheConstants.{CYCLE_PLACE, FORMAT_PLACE, LEN_PLACE, LSN_PLACE, OPS_PLACE, PREV_PLACE, SIZE_PLACE, TAIL_PLACE, UUID_PLACE, VERSION_PLACE, WORDS_BYTES, WORDS_PLACE, ZEROS_PLACE}
+use Rattle.xr_base.specs.declared.layout.TheConstants.{RECORD_CRC, MAX_BODY_BYTES, RECORD_FORMAT, RECORD_VERSION, RECORD_MAGIC}
 use Rattle.xr_record.specs.declared.unsealing.SealFault.{SealFault}
 use Rattle.xr_record.specs.declared.unsealing.SealFault.TheVariants.{Magic, Version, Length, Checksum, Place}
 use Rattle.xr_record.specs.Lsn.{lsn_number}
-use Rattle.xr_record.specs.Record.{IsSealed, padded, restored, sectors_of}
-
--- the number in four bytes at a place, the highest first
-abbrev pub word_at : ℕ → List ℕ → ℕ
-word_at place bytes = big_number 4 (drop place bytes)
+use Rattle.xr_record.specs.Record.{IsSealed, restored, sectors_of, padded_body}
 
 -- the values in the fields of a header
 abbrev pub head_in : List ℕ → Head
 head_in bytes = record {
-  lsn = record { cycle = word_at LSN_PLACE bytes; sector = word_at (LSN_PLACE + 4) bytes };
-  tail = record { cycle = word_at TAIL_PLACE bytes; sector = word_at (TAIL_PLACE + 4) bytes };
-  prev = word_at PREV_PLACE bytes;
-  ops = word_at OPS_PLACE bytes;
-  len = word_at LEN_PLACE bytes;
+  lsn = record { cycle = be32_at bytes LSN_PLACE; sector = be32_at bytes (LSN_PLACE + 4) };
+  tail = record { cycle = be32_at bytes TAIL_PLACE; sector = be32_at bytes (TAIL_PLACE + 4) };
+  prev = be32_at bytes PREV_PLACE;
+  ops = be32_at bytes OPS_PLACE;
+  len = be32_at bytes LEN_PLACE;
   uuid = part UUID_PLACE 16 bytes;
 }
 
@@ -31,24 +29,24 @@ abbrev pub sectors_in : List ℕ → ℕ
 sectors_in bytes = sectors_of (head_in bytes).len
 
 abbrev pub HasMagic : List ℕ → Type 0
-HasMagic bytes = word_at 0 bytes ≡ MAGIC
+HasMagic bytes = be32_at bytes 0 ≡ RECORD_MAGIC
 
 pub record HasVersion (bytes : List ℕ) : Type 0 where
-  pub version : word_at VERSION_PLACE bytes ≡ VERSION
-  pub format : word_at FORMAT_PLACE bytes ≡ FORMAT
-  pub size : word_at SIZE_PLACE bytes ≡ MOST_BODY_BYTES
+  pub version : be32_at bytes VERSION_PLACE ≡ RECORD_VERSION
+  pub format : be32_at bytes FORMAT_PLACE ≡ RECORD_FORMAT
+  pub size : be32_at bytes SIZE_PLACE ≡ MAX_BODY_BYTES
 
 pub record HasLength (bytes : List ℕ) : Type 0 where
-  pub some : 0 < word_at LEN_PLACE bytes
-  pub most : word_at LEN_PLACE bytes ≤ MOST_BODY_BYTES
-  pub room : SECTOR_BYTES + SECTOR_BYTES * sectors_of (word_at LEN_PLACE bytes) ≤ length bytes
+  pub some : 0 < be32_at bytes LEN_PLACE
+  pub most : be32_at bytes LEN_PLACE ≤ MAX_BODY_BYTES
+  pub room : SECTOR_BYTES + SECTOR_BYTES * sectors_of (be32_at bytes LEN_PLACE) ≤ length bytes
 
 -- the checksum of the record's sectors with its own field as zero
 abbrev pub checksum_in : List ℕ → ℕ
-checksum_in bytes = checksum_of (without_four CHECKSUM_PLACE (take (SECTOR_BYTES + SECTOR_BYTES * sectors_of (word_at LEN_PLACE bytes)) bytes))
+checksum_in bytes = checksum_of (without_four RECORD_CRC (take (SECTOR_BYTES + SECTOR_BYTES * sectors_of (be32_at bytes LEN_PLACE)) bytes))
 
 abbrev pub HasChecksum : List ℕ → Type 0
-HasChecksum bytes = little_number 4 (drop CHECKSUM_PLACE bytes) ≡ checksum_in bytes
+HasChecksum bytes = little_number 4 (drop RECORD_CRC bytes) ≡ checksum_in bytes
 
 -- each of the first sectors begins with the cycle
 abbrev pub HasStamps : ℕ → ℕ → List ℕ → Type 0
@@ -71,11 +69,11 @@ IsPadded len bytes = AreZero (slice_range (body_in len bytes) len (SECTOR_BYTES 
 
 -- it says that it is the record of that sector of the log
 pub record IsHere (sector : ℕ) (bytes : List ℕ) : Type 0 where
-  pub here : word_at (LSN_PLACE + 4) bytes ≡ sector
+  pub here : be32_at bytes (LSN_PLACE + 4) ≡ sector
   pub log : sector < LOG_SECTORS
-  pub cycle : word_at CYCLE_PLACE bytes ≡ word_at LSN_PLACE bytes
-  pub round : 0 < word_at LSN_PLACE bytes
-  pub cycles : word_at LSN_PLACE bytes < CYCLES
+  pub cycle : be32_at bytes CYCLE_PLACE ≡ be32_at bytes LSN_PLACE
+  pub round : 0 < be32_at bytes LSN_PLACE
+  pub cycles : be32_at bytes LSN_PLACE < CYCLES
   pub tail : lsn_number (head_in bytes).tail ≤ lsn_number (head_in bytes).lsn
 
 -- the header's words past the last sector and its end are zero
@@ -86,12 +84,12 @@ HasZeros sectors bytes =
 -- and has its stamps and zeros, but for what follows the body
 pub record IsPlaced (sector : ℕ) (bytes : List ℕ) : Type 0 where
   pub here : IsHere sector bytes
-  pub stamps : HasStamps (word_at LSN_PLACE bytes) (sectors_in bytes) (drop SECTOR_BYTES bytes)
+  pub stamps : HasStamps (be32_at bytes LSN_PLACE) (sectors_in bytes) (drop SECTOR_BYTES bytes)
   pub zeros : HasZeros (sectors_in bytes) bytes
 
 pub record IsInPlace (sector : ℕ) (bytes : List ℕ) : Type 0 where
   pub placed : IsPlaced sector bytes
-  pub padding : IsPadded (word_at LEN_PLACE bytes) bytes
+  pub padding : IsPadded (be32_at bytes LEN_PLACE) bytes
 
 -- this is the first rule that is broken
 abbrev pub IsRefusal : ℕ → List ℕ → SealFault → Type 0
@@ -108,4 +106,4 @@ pub record Opens (sector : ℕ) (old new : List ℕ) (head : Head) : Type 0 wher
   pub body : List ℕ
   pub record_is : IsSealed old head body
   pub here : head.lsn.sector ≡ sector
-  pub new_is : new ≡ take SECTOR_BYTES old ++ padded body ++ drop (SECTOR_BYTES + SECTOR_BYTES * sectors_of head.len) old
+  pub new_is : new ≡ take SECTOR_BYTES old ++ padded_body body ++ drop (SECTOR_BYTES + SECTOR_BYTES * sectors_of head.len) old

@@ -6,10 +6,10 @@ ghost use Rattle.xr_record.specs.Record.{fields_before, fields_after};
 use crate::bytes::{put, put_word};
 use crate::head::Head;
 use crate::layout::{
-    CHECKSUM_PLACE, CYCLE_PLACE, FORMAT, FORMAT_PLACE, LEN_PLACE, LSN_PLACE, MAGIC,
-    MOST_BODY_BYTES, OPS_PLACE, PREV_PLACE, SIZE_PLACE, TAIL_PLACE, UUID_PLACE, VERSION,
-    VERSION_PLACE, WORDS_PLACE, ZEROS_BYTES, ZEROS_PLACE,
+    CYCLE_PLACE, FORMAT_PLACE, LEN_PLACE, LSN_PLACE, OPS_PLACE, PREV_PLACE, SIZE_PLACE, TAIL_PLACE,
+    UUID_PLACE, VERSION_PLACE, WORDS_PLACE, ZEROS_BYTES, ZEROS_PLACE,
 };
+use xr_base::layout::{MAX_BODY_BYTES, RECORD_CRC, RECORD_FORMAT, RECORD_MAGIC, RECORD_VERSION};
 
 /// Writes the fields before the words. The one of the checksum is zero.
 fn put_fields_before(header: &mut [u8], head: &Head)
@@ -17,15 +17,15 @@ fn put_fields_before(header: &mut [u8], head: &Head)
     ensures front { take 44 header.new ≡ fields_before head.now 0 }
     ensures rest { drop 44 header.new ≡ drop 44 header.old }
 {
-    put_word(header, 0, MAGIC);
+    put_word(header, 0, RECORD_MAGIC);
     put_word(header, CYCLE_PLACE, head.lsn.cycle);
-    put_word(header, VERSION_PLACE, VERSION);
+    put_word(header, VERSION_PLACE, RECORD_VERSION);
     put_word(header, LEN_PLACE, head.len);
     put_word(header, LSN_PLACE, head.lsn.cycle);
     put_word(header, LSN_PLACE + 4, head.lsn.sector);
     put_word(header, TAIL_PLACE, head.tail.cycle);
     put_word(header, TAIL_PLACE + 4, head.tail.sector);
-    put_word(header, CHECKSUM_PLACE, 0);
+    put_word(header, RECORD_CRC, 0);
     put_word(header, PREV_PLACE, head.prev);
     put_word(header, OPS_PLACE, head.ops);
 }
@@ -35,9 +35,9 @@ fn put_fields_after(header: &mut [u8], head: &Head)
     requires { length header.old ≡ 512 }
     ensures { header.new ≡ take 300 header.old ++ fields_after head.now }
 {
-    put_word(header, FORMAT_PLACE, FORMAT);
+    put_word(header, FORMAT_PLACE, RECORD_FORMAT);
     put(header, UUID_PLACE, head.uuid.as_bytes());
-    put_word(header, SIZE_PLACE, MOST_BODY_BYTES as u32);
+    put_word(header, SIZE_PLACE, MAX_BODY_BYTES as u32);
     put(header, ZEROS_PLACE, &[0; ZEROS_BYTES]);
 }
 

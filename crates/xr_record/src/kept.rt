@@ -1,7 +1,7 @@
 //! What a reader keeps between pieces, and what an operation makes of it.
 ghost use Rattle.std.specs.Prelude.{◌≡◌, ◌<◌, ◌≤◌, ◌++◌, ◌∷◌, [], ℕ, IfOk, IfErr, OnOk, length, take};
 ghost use Rattle.xr_record.specs.declared.rules.Stage.TheVariants.{Between, Cut, Inside};
-ghost use Rattle.xr_record.specs.Kept.{Applies, Completes, HasCount, IsFault, IsGrowing, IsGrown, IsKept, IsWhole, Settles, front_of, held_in, region_items};
+ghost use Rattle.xr_record.specs.Kept.{Applies, Completes, IsFault, IsGrowing, IsKept, Settles, front_of, held_in, region_items, HasCountBytes, TakesBytes, IsWholeOperation};
 
 use crate::entry::{Entry, Regions};
 use crate::fault::FeedFault;
@@ -41,7 +41,7 @@ fn front_of(stage: Stage) -> usize
 pub fn grow(kept: &mut Kept, piece: &[u8]) -> Result<usize, NoMemory>
     requires kept { IsKept kept.old }
     requires some { 0 < length piece.now }
-    ensures grown { IfOk result (λ n. IsGrown kept.old kept.new (take n piece.now)) }
+    ensures grown { IfOk result (λ n. TakesBytes kept.old kept.new (take n piece.now)) }
     ensures count { IfOk result (λ n. (0 < n) × (n ≤ length piece.now)) }
 {
     if kept.header.len() < OPERATION_BYTES {
@@ -148,7 +148,7 @@ fn apply_cut(
 /// What the operation makes of what is open, but for its header.
 fn apply(kept: &mut Kept, alloc: Global, sort: Sort, tid: u32) -> Result<Option<Entry>, NoMemory>
     requires front { front_of kept.old.stage ≤ length kept.old.body.items }
-    requires count { HasCount kept.old.stage (length kept.old.body.items) }
+    requires count { HasCountBytes kept.old.stage (length kept.old.body.items) }
     ensures { IfOk result (Applies kept.old kept.new sort tid) }
 {
     match kept.stage {
@@ -173,7 +173,7 @@ fn complete(
     fields: &Fields,
 ) -> Result<Option<Entry>, FeedFault>
     requires growing { IsGrowing kept.old }
-    requires header { IsWhole kept.old fields.now sort }
+    requires header { IsWholeOperation kept.old fields.now sort }
     ensures kept { IfOk result (λ _. IsKept kept.new) }
     ensures completes { IfOk result (Completes (held_in kept.old) (held_in kept.new)) }
     ensures fault { IfErr result (IsFault (held_in kept.old)) }

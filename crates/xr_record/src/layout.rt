@@ -1,21 +1,6 @@
 //! The numbers of the formats of records and operations, each named once for code and specs ("XFS Algorithms and Data
 //! Structures", 3rd edition, Log Record and Log Operations).
 
-/// `h_magicno`: how a record begins.
-pub const MAGIC: u32 = 0xFEED_BABE;
-
-/// `h_version`: the one kind of record here.
-pub const VERSION: u32 = 2;
-
-/// `h_fmt`: how the machine that wrote the record orders bytes.
-pub const FORMAT: u32 = 1;
-
-/// The most bytes that a body has, which is also what every header says in `h_size`.
-pub const MOST_BODY_BYTES: usize = 32_768;
-
-/// One more than the greatest cycle of a record.
-pub const CYCLES: u32 = 4_000_000_000;
-
 /// Where the header's fields stand. The magic is at the front.
 pub const CYCLE_PLACE: usize = 4;
 
@@ -26,8 +11,6 @@ pub const LEN_PLACE: usize = 12;
 pub const LSN_PLACE: usize = 16;
 
 pub const TAIL_PLACE: usize = 24;
-
-pub const CHECKSUM_PLACE: usize = 32;
 
 pub const PREV_PLACE: usize = 36;
 

@@ -1,6 +1,7 @@
 //! The header of an operation: its fields, and what it is by its client and flags.
 ghost use Rattle.std.specs.Prelude.{◌≡◌, ◌≤◌, length};
-ghost use Rattle.xr_record.specs.Operations.{AreBytes, fields};
+ghost use Rattle.xr_record.specs.Operations.{fields};
+ghost use Rattle.xr_base.specs.Fields.{AreBytes};
 ghost use Rattle.xr_record.specs.declared.layout.TheConstants.{OPERATION_BYTES};
 
 use byteorder::{BigEndian, ByteOrder};

@@ -3,11 +3,12 @@ ghost use Rattle.std.specs.Prelude.{◌≡◌, ◌⊎◌, ◌-◌, ◌<◌, ◌�
 ghost use Rattle.byteorder.specs.Endian.{big_bytes};
 ghost use Rattle.xr_record.specs.Packing.{HasNoRoom, Pushes, PushesAreOperations, part_flags, room_in};
 
-use crate::layout::{CONTINUE, LAST_FLAGS, MIDDLE_FLAGS, MOST_BODY_BYTES, OPERATION_BYTES};
+use crate::layout::{CONTINUE, LAST_FLAGS, MIDDLE_FLAGS, OPERATION_BYTES};
 use byteorder::{BigEndian, ByteOrder};
 use std::alloc::Global;
 use std::marker::Model;
 use xr_base::NoMemory;
+use xr_base::layout::MAX_BODY_BYTES;
 
 /// The body of a record that grows by an operation at a time. Its memory is all taken when it is made.
 #[derive(Drop)]
@@ -18,7 +19,7 @@ pub struct Packer {
 
 impl Model for Packer {
     ghost use Rattle.std.specs.Prelude.{◌*◌, ◌≤◌, vec_capacity, vec_len};
-    ghost use Rattle.xr_record.specs.declared.layout.TheConstants.{MOST_BODY_BYTES};
+    ghost use Rattle.xr_base.specs.declared.layout.TheConstants.{MAX_BODY_BYTES};
     ghost use Rattle.xr_record.specs.Packing.{IsPacking, Packed};
 
     ghost Value = { Packed };
@@ -65,7 +66,7 @@ impl Packer {
         ensures { IfOk result (λ packer. packer ≡ record { body = []; ops = 0 }) }
     {
         Ok(Packer {
-            body: Vec::with_capacity(alloc, MOST_BODY_BYTES)?,
+            body: Vec::with_capacity(alloc, MAX_BODY_BYTES)?,
             ops: 0,
         })
     }
@@ -86,7 +87,7 @@ impl Packer {
             (HasNoRoom (room_in self.old.body) (length region.now - from) × (self.new ≡ self.old))
             (Pushes self.old self.new tid client flags region.now from) }
     {
-        let room = MOST_BODY_BYTES - self.body.len();
+        let room = MAX_BODY_BYTES - self.body.len();
         if lacks_room(room, region.len() - from) {
             return None;
         }

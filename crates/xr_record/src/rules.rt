@@ -1,7 +1,8 @@
 //! The rules that each operation is tested by.
 ghost use Rattle.std.specs.Prelude.{◌≡◌, ◌<◌, ◌≤◌, ◌∷◌, ℕ, List, IsNone, length};
-ghost use Rattle.xr_record.specs.Kept.{HasCount, IsTested, front_of, region_items, state_at};
-ghost use Rattle.xr_record.specs.Operations.{AreBytes, sort_of};
+ghost use Rattle.xr_record.specs.Kept.{front_of, region_items, state_at, HasCountBytes, IsHeaderSort};
+ghost use Rattle.xr_record.specs.Operations.{sort_of};
+ghost use Rattle.xr_base.specs.Fields.{AreBytes};
 ghost use Rattle.xr_record.specs.Rules.{body_fault, is_client, is_header_body, is_len, is_region_len, is_tid, may_come};
 ghost use Rattle.xr_record.specs.Stream.{are_items, item_len, items_from};
 
@@ -118,7 +119,7 @@ fn is_len(stage: Stage, sort: Sort, len: u32) -> bool
 /// The sort of an operation by its header, or the first rule that the header breaks.
 pub fn sort_in(stage: Stage, f: &Fields) -> Result<Sort, OpKind>
     ensures { (regions : List (List ℕ)) (body : List ℕ) → front_of stage ≤ length body
-        → IsTested (state_at stage regions body) f.now result }
+        → IsHeaderSort (state_at stage regions body) f.now result }
 {
     if !is_client(f) {
         return Err(OpKind::Client);
@@ -187,7 +188,7 @@ fn are_items(regions: &[Vec<u8>]) -> bool
 /// The first rule that the body of an operation breaks whose header breaks none.
 pub fn body_fault(stage: Stage, regions: &[Vec<u8>], sort: Sort, body: &[u8]) -> Option<OpKind>
     ensures fault { (front : List ℕ) → result ≡ body_fault (state_at stage (region_items regions.now) front) sort body.now }
-    ensures room { IsNone result → HasCount stage (length body.now) }
+    ensures room { IsNone result → HasCountBytes stage (length body.now) }
     ensures small { AreBytes body.now }
 {
     match (stage, sort) {

@@ -2,16 +2,17 @@
 ghost use Rattle.std.specs.Prelude.{◌≡◌, ◌+◌, ◌*◌, length, drop};
 ghost use Rattle.xr_base.specs.Image.{part};
 ghost use Rattle.xr_base.specs.declared.geometry.TheConstants.{SECTOR_BYTES};
-ghost use Rattle.xr_record.specs.Record.{IsGoodHead, padded, sealed, sectors_of, sectors_with};
+ghost use Rattle.xr_record.specs.Record.{IsGoodHead, sectors_of, sectors_with, record_sectors, padded_body};
 
 use crate::bytes::put;
 use crate::head::Head;
 use crate::header::put_header;
-use crate::layout::{CHECKSUM_PLACE, WORDS_BYTES};
+use crate::layout::WORDS_BYTES;
 use crate::words::stamp;
 use byteorder::{ByteOrder, LittleEndian};
 use xr_base::crc32c;
 use xr_base::geometry::SECTOR_BYTES;
+use xr_base::layout::RECORD_CRC;
 
 /// The sectors that a body of so many bytes takes.
 pub fn sectors_of(len: u32) -> usize
@@ -24,7 +25,7 @@ pub fn sectors_of(len: u32) -> usize
 fn write_sectors(head: &Head, out: &mut [u8])
     requires good { IsGoodHead head.now }
     requires room { length out.old ≡ SECTOR_BYTES + SECTOR_BYTES * sectors_of head.now.len }
-    requires padding { drop SECTOR_BYTES out.old ≡ padded (part SECTOR_BYTES head.now.len out.old) }
+    requires padding { drop SECTOR_BYTES out.old ≡ padded_body (part SECTOR_BYTES head.now.len out.old) }
     ensures { out.new ≡ sectors_with 0 head.now (part SECTOR_BYTES head.now.len out.old) }
 {
     let (header, body) = out.split_at_mut(SECTOR_BYTES);
@@ -38,11 +39,11 @@ fn write_sectors(head: &Head, out: &mut [u8])
 pub fn seal(head: &Head, out: &mut [u8])
     requires good { IsGoodHead head.now }
     requires room { length out.old ≡ SECTOR_BYTES + SECTOR_BYTES * sectors_of head.now.len }
-    requires padding { drop SECTOR_BYTES out.old ≡ padded (part SECTOR_BYTES head.now.len out.old) }
-    ensures { out.new ≡ sealed head.now (part SECTOR_BYTES head.now.len out.old) }
+    requires padding { drop SECTOR_BYTES out.old ≡ padded_body (part SECTOR_BYTES head.now.len out.old) }
+    ensures { out.new ≡ record_sectors head.now (part SECTOR_BYTES head.now.len out.old) }
 {
     write_sectors(head, out);
     let mut checksum = [0; 4];
     LittleEndian::write_u32(&mut checksum, crc32c(out));
-    put(out, CHECKSUM_PLACE, &checksum);
+    put(out, RECORD_CRC, &checksum);
 }

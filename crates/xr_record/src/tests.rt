@@ -1,13 +1,11 @@
 //! Rows of records and of streams. Their bytes were worked out by hand, or made by the calls that are proved.
 ghost use Rattle.std.specs.Prelude.{◌≡◌, ◌+◌, ◌*◌, ◌<◌, ◌≤◌, IfOk, drop, length};
 ghost use Rattle.xr_base.specs.Image.{part};
-ghost use Rattle.xr_record.specs.Record.{IsGoodHead, padded, sectors_of};
+ghost use Rattle.xr_record.specs.Record.{IsGoodHead, sectors_of, padded_body};
 
 use super::*;
 use crate::bytes::put;
-use crate::layout::{
-    CHECKSUM_PLACE, COMMIT, MOST_BODY_BYTES, OPERATION_BYTES, START, TRANSACTION_CLIENT,
-};
+use crate::layout::{COMMIT, OPERATION_BYTES, START, TRANSACTION_CLIENT};
 use crate::sealing::sectors_of;
 use byteorder::{ByteOrder, LittleEndian};
 use std::alloc::{AllocError, Global};
@@ -16,6 +14,7 @@ use std::test::Fail;
 use uuid::Uuid;
 use xr_base::crc32c_without;
 use xr_base::geometry::SECTOR_BYTES;
+use xr_base::layout::{MAX_BODY_BYTES, RECORD_CRC};
 
 fn head_of(len: u32) -> Head
     requires some { 0 < len }
@@ -43,7 +42,7 @@ fn head_of(len: u32) -> Head
 fn unsealed(alloc: Global, body: &[u8], len: u32) -> Result<Vec<u8>, AllocError>
     requires { length body.now ≡ len }
     ensures room { IfOk result (λ out. length out.items ≡ 512 + 512 * sectors_of len) }
-    ensures padding { IfOk result (λ out. drop 512 out.items ≡ padded (part 512 len out.items)) }
+    ensures padding { IfOk result (λ out. drop 512 out.items ≡ padded_body (part 512 len out.items)) }
 {
     let mut out = vec![in alloc; 0; SECTOR_BYTES + SECTOR_BYTES * sectors_of(len)]?;
     put(&mut out, SECTOR_BYTES, body);
@@ -51,7 +50,7 @@ fn unsealed(alloc: Global, body: &[u8], len: u32) -> Result<Vec<u8>, AllocError>
 }
 
 fn sealed(rt: &impl Abort, alloc: Global, len: u32) -> Result<Vec<u8>, AllocError> {
-    assert!(rt; len > 0 && len <= MOST_BODY_BYTES as u32);
+    assert!(rt; len > 0 && len <= MAX_BODY_BYTES as u32);
     let body = vec![in alloc; 0xA5; len as usize]?;
     let head = head_of(len);
     let mut out = unsealed(alloc, &body, len)?;
@@ -61,7 +60,7 @@ fn sealed(rt: &impl Abort, alloc: Global, len: u32) -> Result<Vec<u8>, AllocErro
 
 fn opened(rt: &impl Abort, record: &mut [u8]) -> Result<Head, SealFault> {
     assert!(rt; record.len() % SECTOR_BYTES == 0 && record.len() >= SECTOR_BYTES);
-    assert!(rt; record.len() <= SECTOR_BYTES + MOST_BODY_BYTES);
+    assert!(rt; record.len() <= SECTOR_BYTES + MAX_BODY_BYTES);
     unseal(record, 17)
 }
 
@@ -115,8 +114,8 @@ fn refuses_by_the_first_broken_rule(rt: HostRuntime) -> Result<(), Fail> {
         assert!(rt; place < record.len() && record.len() == 1536);
         record[place] = value;
         if again {
-            let checksum = crc32c_without(&record, CHECKSUM_PLACE);
-            LittleEndian::write_u32(&mut record[CHECKSUM_PLACE..], checksum);
+            let checksum = crc32c_without(&record, RECORD_CRC);
+            LittleEndian::write_u32(&mut record[RECORD_CRC..], checksum);
         }
         let before = record.clone()?;
         assert_eq!(rt; opened(&rt, &mut record), Err(wanted), "byte {place}");
@@ -211,7 +210,7 @@ fn faults_by_the_first_broken_rule(rt: HostRuntime) -> Result<(), Fail> {
 fn with_room(rt: &impl Abort, alloc: Global, room: usize) -> Result<Packer, AllocError> {
     let mut packer = Packer::new(alloc)?;
     assert!(rt; room <= 4096);
-    let filler = vec![in alloc; 0; MOST_BODY_BYTES - OPERATION_BYTES - room]?;
+    let filler = vec![in alloc; 0; MAX_BODY_BYTES - OPERATION_BYTES - room]?;
     assert_eq!(rt;
         packer.push(9, TRANSACTION_CLIENT, 0, &filler, 0),
         Some(filler.len())
@@ -235,8 +234,8 @@ fn packed(
             Some(*stop)
         );
     }
-    assert!(rt; MOST_BODY_BYTES - room <= packer.body().len());
-    Vec::from_slice(alloc, &packer.body()[MOST_BODY_BYTES - room..])
+    assert!(rt; MAX_BODY_BYTES - room <= packer.body().len());
+    Vec::from_slice(alloc, &packer.body()[MAX_BODY_BYTES - room..])
 }
 
 #[test]

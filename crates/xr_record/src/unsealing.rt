@@ -3,24 +3,24 @@ ghost use Rattle.std.specs.Prelude.{◌≡◌, ◌+◌, ◌*◌, ◌≤◌, ◌<
 ghost use Rattle.byteorder.specs.Endian.{big_bytes};
 ghost use Rattle.xr_base.specs.declared.geometry.TheConstants.{SECTOR_BYTES};
 ghost use Rattle.xr_record.specs.declared.head.Head.{Head};
-ghost use Rattle.xr_record.specs.Operations.{AreBytes};
+ghost use Rattle.xr_base.specs.Fields.{AreBytes, be32_at};
 ghost use Rattle.xr_record.specs.Record.{IsSealed, sectors_of};
-ghost use Rattle.xr_record.specs.Unsealing.{HasChecksum, HasLength, HasMagic, HasStamps, HasVersion, HasZeros, IsHere, IsInPlace, IsPadded, IsPlaced, IsRefusal, Opens, checksum_in, head_in, opened, word_at};
+ghost use Rattle.xr_record.specs.Unsealing.{HasChecksum, HasLength, HasMagic, HasStamps, HasVersion, HasZeros, IsHere, IsInPlace, IsPadded, IsPlaced, IsRefusal, Opens, checksum_in, head_in, opened};
 
 use crate::bytes::is_zero;
 use crate::head::{Head, Lsn};
 use crate::layout::{
-    CHECKSUM_PLACE, CYCLE_PLACE, CYCLES, FORMAT, FORMAT_PLACE, LEN_PLACE, LSN_PLACE, MAGIC,
-    MOST_BODY_BYTES, OPS_PLACE, PREV_PLACE, SIZE_PLACE, TAIL_PLACE, UUID_PLACE, VERSION,
-    VERSION_PLACE, WORDS_BYTES, WORDS_PLACE, ZEROS_PLACE,
+    CYCLE_PLACE, FORMAT_PLACE, LEN_PLACE, LSN_PLACE, OPS_PLACE, PREV_PLACE, SIZE_PLACE, TAIL_PLACE,
+    UUID_PLACE, VERSION_PLACE, WORDS_BYTES, WORDS_PLACE, ZEROS_PLACE,
 };
 use crate::sealing::sectors_of;
 use crate::words::{restore, stamp};
 use byteorder::{BigEndian, ByteOrder, LittleEndian};
 use thiserror::Error;
 use uuid::Uuid;
-use xr_base::crc32c_without;
-use xr_base::geometry::{LOG_SECTORS, SECTOR_BYTES};
+use xr_base::geometry::{CYCLES, LOG_SECTORS, SECTOR_BYTES};
+use xr_base::layout::{MAX_BODY_BYTES, RECORD_CRC, RECORD_FORMAT, RECORD_MAGIC, RECORD_VERSION};
+use xr_base::{be32_at, crc32c_without};
 
 /// Why the bytes at a sector aren't a sealed record of that sector: the first rule, in this order, that is broken.
 #[derive(Clone, Copy, Debug, PartialEq, Eq, Error)]
@@ -43,21 +43,14 @@ pub enum SealFault {
     Place { sector: u32 },
 }
 
-fn word_at(bytes: &[u8], place: usize) -> u32
-    requires { place + 4 ≤ length bytes.now }
-    ensures { result ≡ word_at place bytes.now }
-{
-    BigEndian::read_u32(&bytes[place..])
-}
-
 fn lsn_in(bytes: &[u8], place: usize) -> Lsn
     requires { place + 8 ≤ length bytes.now }
-    ensures cycle { result.cycle ≡ word_at place bytes.now }
-    ensures sector { result.sector ≡ word_at (place + 4) bytes.now }
+    ensures cycle { result.cycle ≡ be32_at bytes.now place }
+    ensures sector { result.sector ≡ be32_at bytes.now (place + 4) }
 {
     Lsn {
-        cycle: word_at(bytes, place),
-        sector: word_at(bytes, place + 4),
+        cycle: be32_at(bytes, place),
+        sector: be32_at(bytes, place + 4),
     }
 }
 
@@ -79,9 +72,9 @@ fn head_in(bytes: &[u8]) -> Head
     Head {
         lsn: lsn_in(bytes, LSN_PLACE),
         tail: lsn_in(bytes, TAIL_PLACE),
-        prev: word_at(bytes, PREV_PLACE),
-        ops: word_at(bytes, OPS_PLACE),
-        len: word_at(bytes, LEN_PLACE),
+        prev: be32_at(bytes, PREV_PLACE),
+        ops: be32_at(bytes, OPS_PLACE),
+        len: be32_at(bytes, LEN_PLACE),
         uuid: uuid_in(bytes, UUID_PLACE),
     }
 }
@@ -90,18 +83,18 @@ fn has_version(bytes: &[u8]) -> bool
     requires { SECTOR_BYTES ≤ length bytes.now }
     ensures { IsTrue result ↔ HasVersion bytes.now }
 {
-    word_at(bytes, VERSION_PLACE) == VERSION
-        && word_at(bytes, FORMAT_PLACE) == FORMAT
-        && word_at(bytes, SIZE_PLACE) == MOST_BODY_BYTES as u32
+    be32_at(bytes, VERSION_PLACE) == RECORD_VERSION
+        && be32_at(bytes, FORMAT_PLACE) == RECORD_FORMAT
+        && be32_at(bytes, SIZE_PLACE) == MAX_BODY_BYTES as u32
 }
 
 fn has_length(bytes: &[u8]) -> bool
     requires { SECTOR_BYTES ≤ length bytes.now }
     ensures { IsTrue result ↔ HasLength bytes.now }
 {
-    let len = word_at(bytes, LEN_PLACE);
+    let len = be32_at(bytes, LEN_PLACE);
     len > 0
-        && len <= MOST_BODY_BYTES as u32
+        && len <= MAX_BODY_BYTES as u32
         && SECTOR_BYTES + SECTOR_BYTES * sectors_of(len) <= bytes.len()
 }
 
@@ -111,16 +104,15 @@ fn has_checksum(bytes: &[u8]) -> bool
     ensures checksum { IsTrue result ↔ HasChecksum bytes.now }
     ensures fits { checksum_in bytes.now < 2 ^ 32 }
 {
-    let total = SECTOR_BYTES + SECTOR_BYTES * sectors_of(word_at(bytes, LEN_PLACE));
-    LittleEndian::read_u32(&bytes[CHECKSUM_PLACE..])
-        == crc32c_without(&bytes[..total], CHECKSUM_PLACE)
+    let total = SECTOR_BYTES + SECTOR_BYTES * sectors_of(be32_at(bytes, LEN_PLACE));
+    LittleEndian::read_u32(&bytes[RECORD_CRC..]) == crc32c_without(&bytes[..total], RECORD_CRC)
 }
 
 fn has_stamp(body: &[u8], i: usize, cycle: u32) -> bool
     requires { SECTOR_BYTES * i + SECTOR_BYTES ≤ length body.now }
     ensures { IsTrue result ↔ (take 4 (drop (SECTOR_BYTES * i) body.now) ≡ big_bytes 4 cycle) }
 {
-    word_at(body, SECTOR_BYTES * i) == cycle
+    be32_at(body, SECTOR_BYTES * i) == cycle
 }
 
 /// Whether each of the first sectors begins with the cycle.
@@ -144,7 +136,7 @@ fn is_here(bytes: &[u8], sector: u32) -> bool
     let head = head_in(bytes);
     head.lsn.sector == sector
         && sector < LOG_SECTORS
-        && word_at(bytes, CYCLE_PLACE) == head.lsn.cycle
+        && be32_at(bytes, CYCLE_PLACE) == head.lsn.cycle
         && head.lsn.cycle > 0
         && head.lsn.cycle < CYCLES
         && head.tail.number() <= head.lsn.number()
@@ -166,8 +158,8 @@ fn is_placed(bytes: &[u8], sector: u32) -> bool
     requires length { HasLength bytes.now }
     ensures { IsTrue result ↔ IsPlaced sector bytes.now }
 {
-    let sectors = sectors_of(word_at(bytes, LEN_PLACE));
-    let cycle = word_at(bytes, LSN_PLACE);
+    let sectors = sectors_of(be32_at(bytes, LEN_PLACE));
+    let cycle = be32_at(bytes, LSN_PLACE);
     if !is_here(bytes, sector) {
         return false;
     }
@@ -181,7 +173,7 @@ fn is_placed(bytes: &[u8], sector: u32) -> bool
 /// as they were.
 fn open(bytes: &mut [u8], len: u32, cycle: u32) -> bool
     requires room { SECTOR_BYTES + SECTOR_BYTES * sectors_of len ≤ length bytes.old }
-    requires len { len ≤ MOST_BODY_BYTES }
+    requires len { len ≤ MAX_BODY_BYTES }
     requires stamps { HasStamps cycle (sectors_of len) (drop SECTOR_BYTES bytes.old) }
     ensures padded { IsTrue result ↔ IsPadded len bytes.old }
     ensures opened { IsTrue result → bytes.new ≡ opened len bytes.old }
@@ -202,13 +194,13 @@ fn open(bytes: &mut [u8], len: u32, cycle: u32) -> bool
 pub fn unseal(bytes: &mut [u8], sector: u32) -> Result<Head, SealFault>
     requires whole { length bytes.old % SECTOR_BYTES ≡ 0 }
     requires some { SECTOR_BYTES ≤ length bytes.old }
-    requires most { length bytes.old ≤ SECTOR_BYTES + MOST_BODY_BYTES }
+    requires most { length bytes.old ≤ SECTOR_BYTES + MAX_BODY_BYTES }
     ensures opened { IfOk result (Opens sector bytes.old bytes.new) }
     ensures every { (head : Head) (body : List ℕ) → IsSealed bytes.old head body → head.lsn.sector ≡ sector → result ≡ Ok head }
     ensures refused { IfErr result (IsRefusal sector bytes.old) }
     ensures unchanged { OnErr result (bytes.new ≡ bytes.old) }
 {
-    if word_at(bytes, 0) != MAGIC {
+    if be32_at(bytes, 0) != RECORD_MAGIC {
         return Err(SealFault::Magic { sector });
     }
     if !has_version(bytes) {

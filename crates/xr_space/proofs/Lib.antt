@@ -1,8 +1,8 @@
-pub mod Beside
-pub mod Frames
-pub mod FreeSets
-pub mod Joins
-pub mod Pairs
-pub mod RunRecords
-pub mod RunSets
-pub mod SmallTrees
+pub mod BesideLemmas
+pub mod FrameLemmas
+pub mod FreeSetLemmas
+pub mod JoinLemmas
+pub mod PairLemmas
+pub mod RunRecordLemmas
+pub mod RunSetLemmas
+pub mod SmallTreeLemmas

@@ -3,14 +3,14 @@
 use Rattle.std.specs.Prelude.{◌≡◌, ◌≢◌, ◌↔◌, ◌⊎◌, ℕ, ◌+◌, ◌≤◌, List, ◌++◌, length, min, IfSome, Option, Some, true, false}
 use Rattle.std.specs.Ordering.{is_lt}
 use Rattle.std.specs.List.{Contains}
-use Rattle.xr_blocks.specs.declared.free_runs.ByBlock.{ByBlock}
-use Rattle.xr_blocks.specs.declared.free_runs.BySize.{BySize}
-use Rattle.xr_blocks.specs.declared.span.Span.{Span}
-use Rattle.xr_blocks.specs.Frame.{ChangesOnly}
-use Rattle.xr_blocks.specs.FreeRuns.{block_form, by_block, by_size, size_form, size_order}
-use Rattle.xr_blocks.specs.Overlay.{Blocks, changed_blocks, free_count}
-use Rattle.xr_blocks.specs.Spans.{IsIn, is_group_run, touch}
-use Rattle.xr_blocks.specs.Tree.{IsTreeIn, tree_blocks, tree_records}
+use Rattle.xr_kinds.specs.declared.free_runs.ByBlock.{ByBlock}
+use Rattle.xr_kinds.specs.declared.free_runs.BySize.{BySize}
+use Rattle.xr_kinds.specs.declared.span.Span.{Span}
+use Rattle.xr_block.specs.Frame.{ChangesOnly}
+use Rattle.xr_kinds.specs.FreeRuns.{block_form, by_block, by_size, size_form, size_order}
+use Rattle.xr_pool.specs.Overlay.{Blocks, changed_blocks, free_count}
+use Rattle.xr_kinds.specs.Spans.{IsIn, is_group_run, touch}
+use Rattle.xr_block.specs.Tree.{IsTreeIn, tree_blocks, tree_records}
 use Rattle.xr_space.specs.declared.space.Space.{Space}
 
 -- what the two trees hold, and the blocks in which they stand

@@ -1,12 +1,13 @@
 //! Changes of one run in both trees of the free blocks.
 ghost use Rattle.std.specs.Prelude.{◌≡◌, ◌≢◌, ◌≤◌, true, false};
-ghost use Rattle.xr_blocks.specs.declared.span.Span.{Span};
-ghost use Rattle.xr_blocks.specs.Overlay.{free_count};
-ghost use Rattle.xr_blocks.specs.Spans.{apart, is_group_run};
+ghost use Rattle.xr_kinds.specs.declared.span.Span.{Span};
+ghost use Rattle.xr_pool.specs.Overlay.{free_count};
+ghost use Rattle.xr_kinds.specs.Spans.{apart, is_group_run};
 ghost use Rattle.xr_space.specs.Space.{ArePaired, Gains, IsFreeRun, IsSized, IsSpace, IsStep, Loses, Swaps, block_records, size_records};
 
 use crate::space::Space;
-use xr_blocks::{ByBlock, BySize, Overlay, Span};
+use xr_kinds::{ByBlock, BySize, Span};
+use xr_pool::Overlay;
 
 impl Space {
     fn insert_by_block(&mut self, over: &mut Overlay, run: Span)

@@ -1,12 +1,13 @@
 //! Whether the two trees of the free blocks hold the same runs.
 ghost use Rattle.std.specs.Prelude.{◌≡◌, ◌<◌, ◌↔◌, true, false, IsNone, IfSome, IsTrue};
 ghost use Rattle.std.specs.Ordering.{is_lt};
-ghost use Rattle.xr_blocks.specs.declared.span.Span.{Span};
-ghost use Rattle.xr_blocks.specs.FreeRuns.{size_order};
+ghost use Rattle.xr_kinds.specs.declared.span.Span.{Span};
+ghost use Rattle.xr_kinds.specs.FreeRuns.{size_order};
 ghost use Rattle.xr_space.specs.Space.{ArePaired, IsFreeRun, IsNextFree, IsNextSized, IsSized, IsSpace};
 
 use crate::space::Space;
-use xr_blocks::{ByBlock, BySize, Overlay, Span};
+use xr_kinds::{ByBlock, BySize, Span};
+use xr_pool::Overlay;
 
 impl Space {
     fn holds_by_block(&self, over: &Overlay, run: Span) -> bool

@@ -1,12 +1,13 @@
 //! The free blocks of a group, and how some of them are taken and given back.
 ghost use Rattle.std.specs.Prelude.{◌≡◌, ◌≢◌, ℕ, ◌+◌, ◌≤◌, ◌↔◌, ◌⊎◌, true, length, IsNone, IfSome};
-ghost use Rattle.xr_blocks.specs.declared.span.Span.{Span};
-ghost use Rattle.xr_blocks.specs.Frame.{ChangesOnly};
-ghost use Rattle.xr_blocks.specs.Overlay.{changed_blocks, free_count};
-ghost use Rattle.xr_blocks.specs.Spans.{IsIn, end_of, is_group_run, touch};
+ghost use Rattle.xr_kinds.specs.declared.span.Span.{Span};
+ghost use Rattle.xr_block.specs.Frame.{ChangesOnly};
+ghost use Rattle.xr_pool.specs.Overlay.{changed_blocks, free_count};
+ghost use Rattle.xr_kinds.specs.Spans.{IsIn, end_of, is_group_run, touch};
 ghost use Rattle.xr_space.specs.Space.{ArePaired, IsFirst, IsFreeBlock, IsFreeRun, IsFront, IsLoose, IsSpace, IsStep, space_blocks};
 
-use xr_blocks::{ByBlock, BySize, Overlay, Span};
+use xr_kinds::{ByBlock, BySize, Span};
+use xr_pool::Overlay;
 use xr_tree::Tree;
 
 /// The runs of free blocks of a group, in the order of their blocks and in that of their lengths.

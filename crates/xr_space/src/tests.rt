@@ -1,6 +1,6 @@
 //! The free blocks of a fresh group: one run, in a leaf of each tree.
 ghost use Rattle.std.specs.Prelude.{◌≡◌, IfSome};
-ghost use Rattle.xr_blocks.specs.Overlay.{free_count};
+ghost use Rattle.xr_pool.specs.Overlay.{free_count};
 ghost use Rattle.xr_space.specs.Space.{ArePaired, IsSpace};
 
 use crate::space::Space;
@@ -9,7 +9,8 @@ use std::process::Abort;
 use std::test::Fail;
 use xr_base::crc32c_without;
 use xr_base::geometry::BLOCK_BYTES;
-use xr_blocks::{ByBlock, BySize, Overlay, Span};
+use xr_kinds::{ByBlock, BySize, Span};
+use xr_pool::Overlay;
 use xr_tree::Tree;
 
 const FIRST: u32 = 776;

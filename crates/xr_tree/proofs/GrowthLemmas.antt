@@ -6,13 +6,13 @@ use Rattle.std.specs.List.{All, AllPairs, Contains}
 use Rattle.std.specs.Ordering.{is_eq, is_lt}
 use Rattle.std.specs.declared.cmp.Ordering.{Ordering}
 use Rattle.std.specs.declared.cmp.Ordering.TheVariants.{Less}
-use Rattle.xr_blocks.specs.Form.{Form, IsForm}
-use Rattle.xr_blocks.specs.Overlay.{Blocks, block_at, free_count}
-use Rattle.xr_blocks.specs.Tree.{AreRecords, IsTreeIn, tree_records}
-use Rattle.xr_blocks.specs.TreeBlock.{entries_in}
+use Rattle.xr_kinds.specs.Form.{Form, IsForm}
+use Rattle.xr_pool.specs.Overlay.{Blocks, block_at, free_count}
+use Rattle.xr_block.specs.Tree.{AreRecords, IsTreeIn, tree_records}
+use Rattle.xr_block.specs.TreeBlock.{entries_in}
 use Rattle.xr_change.specs.Sets.{inserted, removed, replaced}
 use Rattle.xr_change.specs.Ways.{blocks_wanted, child_of, full_on_way, is_full, way_place}
-use Rattle.xr_tree.proofs.SetMembers.{above, all_in, inserted_only, inserted_pairs, removed_only, replaced_only, replaced_pairs}
+use Rattle.xr_tree.proofs.SetMemberLemmas.{above, all_in, inserted_only, inserted_pairs, removed_only, replaced_only, replaced_pairs}
 use Rattle.xr_tree.specs.Growth.{IsBeside, IsFamily, IsGrown, MayCome}
 
 pub one_at_most : (t : Bool) → (if t then 1 else 0) ≤ 1

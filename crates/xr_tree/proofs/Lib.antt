@@ -1,2 +1,2 @@
 pub mod GrowthLemmas
-pub mod SetMembers
+pub mod SetMemberLemmas

@@ -4,17 +4,17 @@ use Rattle.std.proofs.lemmas.Bool.Decides.{nat_tests}
 use Rattle.std.proofs.lemmas.List.{append-nil, length-append, length-map}
 use Rattle.std.specs.List.{All, AllPairs, concat, flat_map}
 use Rattle.std.specs.declared.cmp.Ordering.TheVariants.{Less}
-use Rattle.xr_blocks.specs.declared.mapping.Mapping.{Mapping}
+use Rattle.xr_kinds.specs.declared.mapping.Mapping.{Mapping}
 use Rattle.xr_tree.specs.Bounds.{FitsIn}
-use Rattle.xr_blocks.specs.Form.{Form, IsForm}
-use Rattle.xr_blocks.specs.Mapping.{is_mapping, mapping_form}
-use Rattle.xr_blocks.specs.MappingLaws.{is_mapping_form}
-use Rattle.xr_blocks.specs.Overlay.{Blocks, block_at}
-use Rattle.xr_blocks.specs.Reverse.{reverse_form}
-use Rattle.xr_blocks.specs.ReverseLaws.{is_reverse_form}
-use Rattle.xr_blocks.specs.Rows.{AreLinked, AreRowsOf, Held, IsWholeLeaf, IsWholeNode, first_of, half, leaves_from, named_below, rows_from}
-use Rattle.xr_blocks.specs.Tree.{IsTreeIn, site_of, tree_blocks, tree_held, tree_records}
-use Rattle.xr_blocks.specs.TreeBlock.{Entry, Place, Site}
+use Rattle.xr_kinds.specs.Form.{Form, IsForm}
+use Rattle.xr_kinds.specs.Mapping.{is_mapping, mapping_form}
+use Rattle.xr_kinds.specs.MappingLaws.{is_mapping_form}
+use Rattle.xr_pool.specs.Overlay.{Blocks, block_at}
+use Rattle.xr_kinds.specs.Reverse.{reverse_form}
+use Rattle.xr_kinds.specs.ReverseLaws.{is_reverse_form}
+use Rattle.xr_block.specs.Rows.{AreLinked, AreRowsOf, Held, IsWholeLeaf, IsWholeNode, first_of, half, leaves_from, named_below, rows_from}
+use Rattle.xr_block.specs.Tree.{IsTreeIn, site_of, tree_blocks, tree_held, tree_records}
+use Rattle.xr_block.specs.TreeBlock.{Entry, Place, Site}
 
 less_one : (n h : ℕ) → 1 ≤ h → n * h ≡ n * (h - 1) + n
 less_one n zero some = absurd (omega arith)

@@ -2,11 +2,11 @@
 use Rattle.std.specs.Prelude.{ℕ, ◌%◌, ◌==◌, ◌&&◌, Bool, not}
 use Rattle.std.proofs.Common.{arith}
 use Rattle.std.proofs.lemmas.Bool.Decides.{nat_tests}
-use Rattle.xr_blocks.specs.declared.reverse.TheConstants.{OWN_COW}
-use Rattle.xr_blocks.specs.FreeRuns.{block_form, size_form}
-use Rattle.xr_blocks.specs.Mapping.{mapping_form}
-use Rattle.xr_blocks.specs.Reference.{reference_form}
-use Rattle.xr_blocks.specs.Reverse.{reverse_form}
+use Rattle.xr_base.specs.declared.geometry.TheConstants.{OWN_COW}
+use Rattle.xr_kinds.specs.FreeRuns.{block_form, size_form}
+use Rattle.xr_kinds.specs.Mapping.{mapping_form}
+use Rattle.xr_kinds.specs.Reference.{reference_form}
+use Rattle.xr_kinds.specs.Reverse.{reverse_form}
 use Rattle.xr_tree.specs.Growth.{IsFamily}
 
 abbrev pub is_even_block : ℕ → ℕ → Bool

@@ -3,9 +3,9 @@ use Rattle.std.specs.Prelude.{◌≡◌, ℕ, ◌≤◌, Bool, true, false, List
 use Rattle.std.specs.List.{All, Contains}
 use Rattle.std.specs.Ordering.{is_eq}
 use Rattle.std.specs.declared.cmp.Ordering.TheVariants.{Less}
-use Rattle.xr_blocks.specs.Form.{Form}
-use Rattle.xr_blocks.specs.Overlay.{Blocks, free_count}
-use Rattle.xr_blocks.specs.Tree.{IsTreeIn, tree_records}
+use Rattle.xr_kinds.specs.Form.{Form}
+use Rattle.xr_pool.specs.Overlay.{Blocks, free_count}
+use Rattle.xr_block.specs.Tree.{IsTreeIn, tree_records}
 
 -- any two records of a family agree, if one comes before the other
 abbrev pub IsFamily : {X : Type 0} → Form X → (X → Bool) → Type 0

@@ -7,8 +7,9 @@ use crate::tests::{
 use std::alloc::{AllocError, Global};
 use std::process::Abort;
 use std::test::Fail;
-use xr_blocks::{ByBlock, BySize, Mapping, Overlay, Record, Reference, Reverse};
+use xr_kinds::{ByBlock, BySize, Mapping, Record, Reference, Reverse};
 use xr_lookup::Reach;
+use xr_pool::Overlay;
 use xr_verify::Kept;
 
 /// The header's block and the root's aren't free.

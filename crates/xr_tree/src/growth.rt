@@ -3,15 +3,14 @@
 ghost use Rattle.std.specs.Prelude.{◌≡◌, ℕ, ◌≤◌, Bool, false, IfSome, IsTrue};
 ghost use Rattle.std.specs.List.{All};
 ghost use Rattle.std.specs.Ordering.{is_eq};
-ghost use Rattle.xr_blocks.specs.Overlay.{free_count};
-ghost use Rattle.xr_blocks.specs.Tree.{IsTreeIn, tree_records};
+ghost use Rattle.xr_pool.specs.Overlay.{free_count};
+ghost use Rattle.xr_block.specs.Tree.{IsTreeIn, tree_records};
 ghost use Rattle.xr_tree.specs.Growth.{IsBeside, IsGrown, MayCome};
 
-use crate::{
-    ByBlock, BySize, Kept, Mapping, OWN_COW, Overlay, Reach, Record, Reference, Reverse, Tree,
-};
+use crate::{ByBlock, BySize, Kept, Mapping, Overlay, Reach, Record, Reference, Reverse, Tree};
 use std::cmp::Ordering;
 use std::marker::Model;
+use xr_base::geometry::OWN_COW;
 
 /// A kind of record with a family: any two records of it may stand in one tree, unless they have one place in the
 /// order.
@@ -78,7 +77,7 @@ impl Family for Mapping {
 
 impl Family for Reverse {
     ghost use Rattle.std.specs.Prelude.{◌==◌, ◌&&◌, not};
-    ghost use Rattle.xr_blocks.specs.declared.reverse.TheConstants.{OWN_COW};
+    ghost use Rattle.xr_base.specs.declared.geometry.TheConstants.{OWN_COW};
     ghost use Rattle.xr_tree.specs.FamilyLaws.{owners_family};
 
     ghost family = { λ r. (r.off == 0) && not (r.owner == OWN_COW) };

@@ -12,10 +12,9 @@ mod tree;
 
 pub use bounds::{mapping_tree_fits, reverse_tree_fits};
 pub use tree::Tree;
-pub use xr_blocks::{
-    ByBlock, BySize, Mapping, OWN_COW, Overlay, Record, Reference, Reverse, changes_follow,
-    other_trees_stay,
-};
+pub use xr_block::fault::{TreeFault, TreeKind};
+pub use xr_block::{changes_follow, other_trees_stay};
+pub use xr_kinds::{ByBlock, BySize, Mapping, Record, Reference, Reverse};
 pub use xr_lookup::Reach;
-pub use xr_node::tree_fault::{TreeFault, TreeKind};
+pub use xr_pool::Overlay;
 pub use xr_verify::Kept;

@@ -6,10 +6,11 @@ use std::alloc::{AllocError, Global};
 use std::process::Abort;
 use std::test::Fail;
 use xr_base::crc32c_without;
-use xr_base::geometry::BLOCK_BYTES;
-use xr_blocks::{ByBlock, BySize, Mapping, OWN_COW, Overlay, Record, Reference, Reverse};
+use xr_base::geometry::{BLOCK_BYTES, OWN_COW};
+use xr_block::fault::{TreeFault, TreeKind};
+use xr_kinds::{ByBlock, BySize, Mapping, Record, Reference, Reverse};
 use xr_lookup::Reach;
-use xr_node::tree_fault::{TreeFault, TreeKind};
+use xr_pool::Overlay;
 use xr_verify::Kept;
 
 pub(crate) const GROUP_BLOCKS: usize = 512;

@@ -1,19 +1,20 @@
 //! A tree, by its root.
 ghost use Rattle.std.specs.Prelude.{◌≡◌, ℕ, ◌+◌, ◌*◌, ◌≤◌, ◌↔◌, true, false, length, IsOk, IfOk, IsTrue};
 ghost use Rattle.std.specs.List.{All, Contains};
-ghost use Rattle.xr_blocks.specs.Bits.{has_bit};
-ghost use Rattle.xr_blocks.specs.Frame.{ChangesOnly};
-ghost use Rattle.xr_blocks.specs.Overlay.{changed_blocks, free_count, pool_size};
-ghost use Rattle.xr_blocks.specs.Tree.{AreRecords, IsTreeIn, tree_blocks, tree_records};
+ghost use Rattle.xr_pool.specs.Bits.{has_bit};
+ghost use Rattle.xr_block.specs.Frame.{ChangesOnly};
+ghost use Rattle.xr_pool.specs.Overlay.{changed_blocks, free_count, pool_size};
+ghost use Rattle.xr_block.specs.Tree.{AreRecords, IsTreeIn, tree_blocks, tree_records};
 ghost use Rattle.xr_change.specs.Sets.{inserted, removed, replaced};
 ghost use Rattle.xr_change.specs.Ways.{blocks_wanted};
 ghost use Rattle.xr_lookup.specs.Lookup.{FindsGreatest, FindsLeast, from, overlaps, up_to};
 
 use std::marker::PhantomData;
-use xr_blocks::{Overlay, Record};
+use xr_block::fault::TreeFault;
 use xr_change::{Root, insert, remove, replace};
+use xr_kinds::Record;
 use xr_lookup::{Reach, at_least, at_most, overlap};
-use xr_node::tree_fault::TreeFault;
+use xr_pool::Overlay;
 use xr_verify::{Kept, verify};
 
 /// A tree of records of one kind, which stands in the blocks of an overlay.

@@ -2,7 +2,7 @@
 use Rattle.std.specs.Prelude.{◌≡◌, ◌∷◌, [], ⊤, true, IfSome, Option, Some, List}
 use Rattle.std.specs.List.{All, AllPairs}
 use Rattle.std.specs.declared.cmp.Ordering.TheVariants.{Less}
-use Rattle.xr_blocks.specs.Form.{Form}
+use Rattle.xr_kinds.specs.Form.{Form}
 
 -- records that keep the rules, as far as they go
 pub record ArePassed {X : Type 0} (form : Form X) (noted : List X) : Type 0 where

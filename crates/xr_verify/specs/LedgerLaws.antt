@@ -4,13 +4,13 @@ use Rattle.std.proofs.lemmas.Bool.Decides.{nat_tests}
 use Rattle.std.proofs.lemmas.Cmp.{ranked}
 use Rattle.std.specs.Ordering.{nat_cmp}
 use Rattle.std.specs.declared.cmp.Ordering.TheVariants.{Less}
-use Rattle.xr_blocks.specs.declared.mapping.Mapping.{Mapping}
-use Rattle.xr_blocks.specs.declared.span.Span.{Span}
-use Rattle.xr_blocks.specs.FreeRuns.{block_form, block_span}
+use Rattle.xr_kinds.specs.declared.mapping.Mapping.{Mapping}
+use Rattle.xr_kinds.specs.declared.span.Span.{Span}
+use Rattle.xr_kinds.specs.FreeRuns.{block_form, block_span}
 use Rattle.xr_verify.specs.Ledger.{NeighboursSuffice}
-use Rattle.xr_blocks.specs.Mapping.{mapping_form}
-use Rattle.xr_blocks.specs.SpanLaws.{group_run}
-use Rattle.xr_blocks.specs.Spans.{apart}
+use Rattle.xr_kinds.specs.Mapping.{mapping_form}
+use Rattle.xr_kinds.specs.SpanLaws.{group_run}
+use Rattle.xr_kinds.specs.Spans.{apart}
 
 pub below_from : (a b : ℕ) → nat_cmp a b ≡ Less → a < b
 below_from a b is = ranked a b Less (sym is)

@@ -1,12 +1,11 @@
 -- Runs of one owner by their lines: on a line a block's offset runs on with the block.
 use Rattle.std.specs.Prelude.{◌≡◌, ◌⊎◌, ℕ, ◌+◌, ◌-◌, ◌*◌, ◌<◌, ◌≤◌, ◌==◌, if◌then◌else◌, List, length, slice_index, slice_index_or}
 use Rattle.std.specs.List.{Any}
-use Rattle.xr_base.specs.declared.geometry.TheConstants.{FIRST_INODE, GROUP_BLOCKS}
+use Rattle.xr_base.specs.declared.geometry.TheConstants.{FIRST_INODE, GROUP_BLOCKS, OWN_COW}
 use Rattle.xr_verify.specs.declared.ledger_reverse.TheConstants.{LINES}
-use Rattle.xr_blocks.specs.declared.reverse.Reverse.{Reverse}
-use Rattle.xr_blocks.specs.declared.reverse.TheConstants.{OWN_COW}
-use Rattle.xr_blocks.specs.Reverse.{reverse_span}
-use Rattle.xr_blocks.specs.Spans.{end_of}
+use Rattle.xr_kinds.specs.declared.reverse.Reverse.{Reverse}
+use Rattle.xr_kinds.specs.Reverse.{reverse_span}
+use Rattle.xr_kinds.specs.Spans.{end_of}
 
 -- staged blocks have one line. A file has one for each difference of block and offset, which is never 0.
 abbrev pub line_of : Reverse → ℕ

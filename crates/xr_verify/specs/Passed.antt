@@ -2,7 +2,7 @@
 use Rattle.std.specs.Prelude.{◌≡◌, ◌+◌, None, List, length}
 use Rattle.std.specs.List.{last_or}
 use Rattle.xr_verify.specs.declared.passed.Passed.{Passed}
-use Rattle.xr_blocks.specs.Form.{Form}
+use Rattle.xr_kinds.specs.Form.{Form}
 use Rattle.xr_verify.specs.Ledger.{ArePassed}
 
 pub record AreNoted {X L : Type 0} (form : Form X) (Notes : L → List X → Type 0) (p : Passed X L) (noted : List X) : Type 0 where

@@ -2,15 +2,15 @@
 -- known after some of them.
 use Rattle.std.specs.Prelude.{◌≡◌, ℕ, zero, suc, ◌+◌, ◌-◌, ◌<◌, ◌≤◌, ◌&&◌, ⊤, Bool, true, false, nat_le, nat_lt, if◌then◌else◌, IfSome, Option, Some, None, List, [], ◌∷◌, ◌++◌, length, map}
 use Rattle.std.specs.List.{flat_map}
-use Rattle.xr_blocks.specs.Bits.{has_bit}
-use Rattle.xr_node.specs.BlockTest.{IsTestedLeaf, IsTestedNode, left_in, right_in}
-use Rattle.xr_blocks.specs.Form.{Form}
-use Rattle.xr_node.specs.Node.{child_in, key_in}
-use Rattle.xr_blocks.specs.Overlay.{Blocks, block_at, is_free, pool_size}
-use Rattle.xr_blocks.specs.Rows.{half, key_held, named_below}
-use Rattle.xr_blocks.specs.Times.{times}
-use Rattle.xr_blocks.specs.Tree.{AreRecords, IsUsed, blocks_of, records_of, site_of, tree_held}
-use Rattle.xr_blocks.specs.TreeBlock.{Entry, count_in, entries_in}
+use Rattle.xr_pool.specs.Bits.{has_bit}
+use Rattle.xr_block.specs.Checks.{IsTestedLeaf, IsTestedNode, left_in, right_in}
+use Rattle.xr_kinds.specs.Form.{Form}
+use Rattle.xr_block.specs.NodeEntries.{child_in, key_in}
+use Rattle.xr_pool.specs.Overlay.{Blocks, block_at, is_free, pool_size}
+use Rattle.xr_block.specs.Rows.{half, key_held, named_below}
+use Rattle.xr_block.specs.Times.{times}
+use Rattle.xr_block.specs.Tree.{AreRecords, IsUsed, blocks_of, records_of, site_of, tree_held}
+use Rattle.xr_block.specs.TreeBlock.{Entry, count_in, entries_in}
 
 abbrev pub IsTested : {X : Type 0} → Form X → Blocks → ℕ → ℕ → ℕ → Type 0
 IsTested form b least zero n = IsTestedLeaf form (site_of b) least n (block_at b n)

@@ -1,18 +1,19 @@
 //! A block of a tree by itself: whether it may be entered, and whether it gives the key that its parent names.
 ghost use Rattle.std.specs.Prelude.{◌≡◌, ℕ, ◌+◌, ◌*◌, ◌<◌, ◌≤◌, ◌↔◌, [], ◌∷◌, false, length, IsOk, IsTrue, IfSome};
-ghost use Rattle.xr_blocks.specs.Bits.{has_bit};
-ghost use Rattle.xr_blocks.specs.Form.{key_size};
-ghost use Rattle.xr_blocks.specs.Overlay.{block_at, is_free, pool_size};
-ghost use Rattle.xr_blocks.specs.Rows.{key_held};
-ghost use Rattle.xr_blocks.specs.Tree.{tree_held};
+ghost use Rattle.xr_pool.specs.Bits.{has_bit};
+ghost use Rattle.xr_kinds.specs.Form.{key_size};
+ghost use Rattle.xr_pool.specs.Overlay.{block_at, is_free, pool_size};
+ghost use Rattle.xr_block.specs.Rows.{key_held};
+ghost use Rattle.xr_block.specs.Tree.{tree_held};
 ghost use Rattle.xr_verify.specs.Visits.{AreMarked, IsOpen, IsTested};
 
-use xr_blocks::bits::{has_bit, set_bit};
-use xr_blocks::{Overlay, Record};
-use xr_node::block_test::{test_leaf, test_node};
-use xr_node::key_test::{is_key_of_leaf, is_key_of_node};
-use xr_node::read::count_of;
-use xr_node::tree_fault::TreeKind;
+use xr_block::check::{test_leaf, test_node};
+use xr_block::fault::TreeKind;
+use xr_block::key::{is_key_of_leaf, is_key_of_node};
+use xr_block::read::count_of;
+use xr_kinds::Record;
+use xr_pool::Overlay;
+use xr_pool::bits::{has_bit, set_bit};
 
 /// Marks a block, if it is neither free nor marked.
 fn mark(over: &Overlay, n: u32, seen: &mut [u8]) -> Result<(), TreeKind>

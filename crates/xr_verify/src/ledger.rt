@@ -2,7 +2,7 @@
 ghost use Rattle.std.specs.Prelude.{◌≡◌, ◌∷◌, ◌++◌, [], List, IsTrue, ◌↔◌};
 ghost use Rattle.xr_verify.specs.Ledger.{AgreesWithAll, IsNext};
 
-use xr_blocks::Record;
+use xr_kinds::Record;
 
 /// A ledger of the records that were passed. It has a fixed size, and a record costs a few steps, however many were noted.
 pub trait Ledger<R: Record>: Drop {

@@ -3,7 +3,7 @@
 ghost use Rattle.std.specs.Prelude.{◌≡◌};
 
 use crate::ledger::{Kept, Ledger};
-use xr_blocks::{ByBlock, Mapping, Record};
+use xr_kinds::{ByBlock, Mapping, Record};
 
 /// A kind of which a record agrees with all before it where each agrees with the one before it.
 pub trait InRows: Record {

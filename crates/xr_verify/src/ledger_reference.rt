@@ -1,11 +1,11 @@
 //! The ledger of shared and staged runs: a bit for each block of the group tells which runs meet, and the run before tells
 //! which ones are to be one, since no other stands between two of one kind that touch.
 ghost use Rattle.std.specs.Prelude.{◌≡◌, ◌↔◌, true, IsTrue, IfSome};
-ghost use Rattle.xr_blocks.specs.Reference.{reference_form};
+ghost use Rattle.xr_kinds.specs.Reference.{reference_form};
 
 use crate::ledger::{Kept, Ledger};
 use crate::run_bits::{MAP_BYTES, are_clear, empty_map, set_bits};
-use xr_blocks::{Record, Reference};
+use xr_kinds::{Record, Reference};
 
 /// Which blocks the runs hold that were passed, and the last of these runs.
 #[derive(Drop)]
@@ -27,7 +27,7 @@ fn agrees_after(last: &Option<Reference>, r: &Reference) -> bool
 impl Ledger<Reference> for ReferenceLedger {
     ghost use Rattle.std.specs.Prelude.{None};
     ghost use Rattle.std.specs.List.{last_or};
-    ghost use Rattle.xr_blocks.specs.Reference.{reference_span};
+    ghost use Rattle.xr_kinds.specs.Reference.{reference_span};
     ghost use Rattle.xr_verify.specs.RunBits.{HoldsRuns};
 
     ghost notes = { λ ledger noted. HoldsRuns reference_span ledger.held noted × (ledger.last ≡ last_or None noted) };

@@ -2,11 +2,11 @@
 //! against each other only where the offsets run on with the blocks, so each has its line.
 ghost use Rattle.std.specs.Prelude.{◌≡◌, ◌<◌, replicate, IsTrue};
 ghost use Rattle.xr_verify.specs.OwnedRuns.{line_of};
-ghost use Rattle.xr_blocks.specs.Reverse.{is_reverse};
+ghost use Rattle.xr_kinds.specs.Reverse.{is_reverse};
 
 use crate::ledger::{Kept, Ledger};
-use xr_base::geometry::{FILES, FIRST_INODE, GROUP_BLOCKS};
-use xr_blocks::{OWN_COW, Reverse};
+use xr_base::geometry::{FILES, FIRST_INODE, GROUP_BLOCKS, OWN_COW};
+use xr_kinds::Reverse;
 
 /// Lines of all owners: a file has at most as many as a group has blocks, and staged blocks have one, the first, which no
 /// file has.

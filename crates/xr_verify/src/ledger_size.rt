@@ -4,7 +4,7 @@ ghost use Rattle.std.specs.Prelude.{◌≡◌};
 
 use crate::ledger::{Kept, Ledger};
 use crate::run_bits::{MAP_BYTES, are_clear, empty_map, set_bits};
-use xr_blocks::BySize;
+use xr_kinds::BySize;
 
 /// Which blocks the runs hold that were passed.
 #[derive(Drop)]
@@ -13,7 +13,7 @@ pub struct SizeLedger {
 }
 
 impl Ledger<BySize> for SizeLedger {
-    ghost use Rattle.xr_blocks.specs.FreeRuns.{size_span};
+    ghost use Rattle.xr_kinds.specs.FreeRuns.{size_span};
     ghost use Rattle.xr_verify.specs.RunBits.{HoldsRuns};
 
     ghost notes = { λ ledger noted. HoldsRuns size_span ledger.held noted };

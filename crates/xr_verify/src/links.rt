@@ -1,13 +1,14 @@
 //! How a block is linked to those beside it in its level, and how the block that is visited before one is found.
 ghost use Rattle.std.specs.Prelude.{◌≡◌, ◌+◌, ◌<◌, ◌≤◌, ◌↔◌, IsTrue, drop};
-ghost use Rattle.xr_node.specs.BlockTest.{left_in, neighbour_in, right_in};
-ghost use Rattle.xr_blocks.specs.Form.{pointer_size};
-ghost use Rattle.xr_blocks.specs.Overlay.{block_at, pool_size};
+ghost use Rattle.xr_block.specs.Checks.{left_in, neighbour_in, right_in};
+ghost use Rattle.xr_kinds.specs.Form.{pointer_size};
+ghost use Rattle.xr_pool.specs.Overlay.{block_at, pool_size};
 ghost use Rattle.xr_verify.specs.Visits.{IsBack, IsLinked, last_below};
 
-use xr_blocks::{Overlay, Record};
-use xr_node::neighbours::{left_of, right_of};
-use xr_node::read::{child_at, count_of};
+use xr_block::read::{child_at, count_of};
+use xr_block::siblings::{left_of, right_of};
+use xr_kinds::Record;
+use xr_pool::Overlay;
 
 /// Whether the block that was visited before this one in its level, if there is one, names it as its right neighbour.
 fn is_back<R: Record>(over: &Overlay, left: Option<u64>, n: u32) -> bool

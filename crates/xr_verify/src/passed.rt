@@ -2,15 +2,16 @@
 ghost use Rattle.std.specs.Prelude.{◌≡◌, ℕ, ◌+◌, ◌<◌, ◌≤◌, ◌↔◌, ◌++◌, [], List, length, slice_index_or, IsOk, IsTrue, IfSome, None};
 ghost use Rattle.std.specs.List.{last_or};
 ghost use Rattle.std.specs.declared.cmp.Ordering.TheVariants.{Less};
-ghost use Rattle.xr_node.specs.BlockTest.{HoldsRecords};
+ghost use Rattle.xr_block.specs.Checks.{HoldsRecords};
 ghost use Rattle.xr_verify.specs.Ledger.{ArePassed, Climb};
 ghost use Rattle.xr_verify.specs.Passed.{AreNoted, IsPast};
-ghost use Rattle.xr_blocks.specs.TreeBlock.{count_in, records_in};
+ghost use Rattle.xr_block.specs.TreeBlock.{count_in, records_in};
 
 use crate::ledger::Ledger;
-use xr_blocks::{Block, Record};
-use xr_node::read::{count_of, tested_record};
-use xr_node::tree_fault::TreeKind;
+use xr_block::fault::TreeKind;
+use xr_block::read::{count_of, tested_record};
+use xr_kinds::Record;
+use xr_pool::Block;
 
 /// What is kept of the records that were passed: the last one, how many more the tree may have, and their ledger.
 #[derive(Drop)]

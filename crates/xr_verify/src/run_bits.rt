@@ -1,8 +1,8 @@
 //! Runs of blocks in a map of bits.
 ghost use Rattle.std.specs.Prelude.{◌≡◌, ◌⊎◌, ℕ, ◌*◌, ◌<◌, ◌≤◌, ◌↔◌, true, false, length, replicate, IsTrue};
-ghost use Rattle.xr_blocks.specs.Bits.{has_bit};
+ghost use Rattle.xr_pool.specs.Bits.{has_bit};
 
-use xr_blocks::bits::{has_bit, set_bit};
+use xr_pool::bits::{has_bit, set_bit};
 
 /// Bytes of a map with a bit for each block of a group, and one for the block behind the last.
 pub(crate) const MAP_BYTES: usize = 257;

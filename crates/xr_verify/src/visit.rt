@@ -2,23 +2,24 @@
 //! tested before its pointers are followed. No memory is taken: the ledger of the records stands on the stack.
 ghost use Rattle.std.specs.Prelude.{◌≡◌, ℕ, ◌+◌, ◌*◌, ◌-◌, ◌<◌, ◌≤◌, ◌==◌, ◌&&◌, ◌↔◌, ◌++◌, [], ◌∷◌, true, false, None, length, List, IsOk, IfOk, IfSome};
 ghost use Rattle.std.specs.List.{All, Contains};
-ghost use Rattle.xr_blocks.specs.Bits.{has_bit};
-ghost use Rattle.xr_blocks.specs.Form.{key_size};
-ghost use Rattle.xr_node.specs.Node.{key_in};
-ghost use Rattle.xr_blocks.specs.Overlay.{block_at, pool_size};
+ghost use Rattle.xr_pool.specs.Bits.{has_bit};
+ghost use Rattle.xr_kinds.specs.Form.{key_size};
+ghost use Rattle.xr_block.specs.NodeEntries.{key_in};
+ghost use Rattle.xr_pool.specs.Overlay.{block_at, pool_size};
 ghost use Rattle.xr_verify.specs.Passed.{IsPast};
-ghost use Rattle.xr_blocks.specs.Rows.{half, key_held};
-ghost use Rattle.xr_blocks.specs.Tree.{AreRecords, IsTreeIn, blocks_of, least_of_root, records_of, tree_blocks, tree_held};
-ghost use Rattle.xr_blocks.specs.TreeBlock.{count_in, records_in};
+ghost use Rattle.xr_block.specs.Rows.{half, key_held};
+ghost use Rattle.xr_block.specs.Tree.{AreRecords, IsTreeIn, blocks_of, least_of_root, records_of, tree_blocks, tree_held};
+ghost use Rattle.xr_block.specs.TreeBlock.{count_in, records_in};
 ghost use Rattle.xr_verify.specs.Visits.{AreMarked, AreNamedFrom, AreSound, Fits, IsEntered, IsLinked, IsTested, children, last_below};
 
 use crate::enter::{is_named, open};
 use crate::ledger::{Kept, Ledger};
 use crate::links::{is_linked, last_child};
 use crate::passed::Passed;
-use xr_blocks::{Block, Overlay, Record};
-use xr_node::read::{child_at, count_of, key_at, record_count};
-use xr_node::tree_fault::{TreeFault, TreeKind};
+use xr_block::fault::{TreeFault, TreeKind};
+use xr_block::read::{child_at, count_of, key_at, record_count};
+use xr_kinds::Record;
+use xr_pool::{Block, Overlay};
 
 /// A block that is to be visited, with the least number of its items, the block that was visited before it in its level, and
 /// whether it is the last of its level.
@@ -128,7 +129,7 @@ fn in_pool(over: &Overlay, n: u32, pointer: u64) -> Result<u32, TreeFault>
 }
 
 /// The least number of items of a block that has a parent.
-#[tactic(auto, unfolding(xr_blocks::specs::Rows::half))]
+#[tactic(auto, unfolding(xr_block::specs::Rows::half))]
 fn least_below<R: Record>(level: u32) -> usize
     ensures value { result ≡ half R.form level }
     ensures some { Fits result level }

@@ -1,4 +1,4 @@
-use Rattle.xr_base.proofs.TableEntries.{entry_is}
+use Rattle.xr_base.proofs.TableLemmas.{entry_is}
 use Rattle.xr_base.proofs.checksum.entry.Goals as goal
 
 pub returns : goal.returns

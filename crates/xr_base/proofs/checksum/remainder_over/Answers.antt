@@ -1,5 +1,5 @@
 use Rattle.std.proofs.Common.{arith, ◌∙◌}
-use Rattle.xr_base.proofs.Remainders.{word_taken}
+use Rattle.xr_base.proofs.RemainderLemmas.{word_taken}
 use Rattle.xr_base.proofs.checksum.remainder_over.Goals as goal
 
 pub loop-at-preserved : goal.loop-at-preserved

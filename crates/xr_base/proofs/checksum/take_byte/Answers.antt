@@ -1,7 +1,7 @@
 use Rattle.std.proofs.Common.{bit_xor, refl, sym, ap, ◌∙◌}
 use Rattle.xr_base.specs.ChecksumLaws.{after_bits-zero}
 use Rattle.xr_base.specs.Checksum.{after_bits}
-use Rattle.xr_base.proofs.Remainders.{after_bits-byte}
+use Rattle.xr_base.proofs.RemainderLemmas.{after_bits-byte}
 use Rattle.xr_base.proofs.checksum.take_byte.Goals as goal
 
 pub returns : goal.returns

@@ -1,7 +1,7 @@
 use Rattle.std.proofs.Common.{ℕ, arith, ap, ◌∙◌, bit_xor}
 use Rattle.std.specs.Int.Bits.{xor_comm, xor_lt}
 use Rattle.xr_base.specs.Checksum.{after_bits}
-use Rattle.xr_base.proofs.Remainders.{byte_taken, all_taken}
+use Rattle.xr_base.proofs.RemainderLemmas.{byte_taken, all_taken}
 use Rattle.xr_base.proofs.checksum.take_word.Goals as goal
 
 pub loop-table-init : goal.loop-table-init

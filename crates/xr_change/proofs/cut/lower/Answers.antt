@@ -1,13 +1,13 @@
 use Rattle.std.proofs.Common.{◌≡◌, ℕ, ◌+◌, ◌-◌, ◌≤◌, [], ◌∷◌, length, suc, sym, subst, arith}
-use Rattle.xr_blocks.specs.Overlay.{block_at, with_given}
-use Rattle.xr_blocks.specs.Tree.{AreRecords, least_of_root, tree_records}
-use Rattle.xr_blocks.specs.TreeBlock.{entries_in}
-use Rattle.xr_change.proofs.Stepping.{row_below}
-use Rattle.xr_change.proofs.WholeChanges.{lowered, root_in_row, root_stays}
+use Rattle.xr_pool.specs.Overlay.{block_at, with_given}
+use Rattle.xr_block.specs.Tree.{AreRecords, least_of_root, tree_records}
+use Rattle.xr_block.specs.TreeBlock.{entries_in}
+use Rattle.xr_change.proofs.StepLemmas.{row_below}
+use Rattle.xr_change.proofs.WholeTreeLemmas.{lowered, root_in_row, root_stays}
 use Rattle.xr_change.specs.Alters.{AreRowsIn}
 use Rattle.xr_change.specs.Lowers.{Lowers}
 use Rattle.xr_change.specs.Ways.{HasSome, IsInTree, child_of, item_count}
-use Rattle.xr_node.specs.NodeLaws.{length-entries}
+use Rattle.xr_block.specs.NodeEntryLaws.{length-entries}
 use Rattle.xr_change.proofs.cut.lower.Goals as goal
 
 pub returns-then-root-eq0 : goal.returns-then-root-eq0

@@ -1,7 +1,7 @@
 use Rattle.std.proofs.Common.{◌∙◌, Bool, List, [], ◌∷◌, length, ap, arith}
-use Rattle.xr_blocks.specs.Marks.{marked}
-use Rattle.xr_change.proofs.Written.{unmarked_few}
-use Rattle.xr_change.proofs.WholeChanges.{cut_frame, cut_rows, cut_rules, cut_some, root_least, two_if}
+use Rattle.xr_pool.specs.Marks.{marked}
+use Rattle.xr_change.proofs.WriteLemmas.{unmarked_few}
+use Rattle.xr_change.proofs.WholeTreeLemmas.{cut_frame, cut_rows, cut_rules, cut_some, root_least, two_if}
 use Rattle.xr_change.proofs.cut.remove_in.Goals as goal
 
 pub remove_below-requires-clause-two : goal.remove_below-requires-clause-two

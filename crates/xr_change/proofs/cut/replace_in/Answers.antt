@@ -1,7 +1,7 @@
 use Rattle.std.proofs.Common.{[], ◌∷◌, arith}
-use Rattle.xr_change.proofs.Written.{same_count, unmarked_few}
+use Rattle.xr_change.proofs.WriteLemmas.{same_count, unmarked_few}
 use Rattle.xr_change.proofs.SetLemmas.{replaced_valid}
-use Rattle.xr_change.proofs.WholeChanges.{root_least, some_if, tree_after}
+use Rattle.xr_change.proofs.WholeTreeLemmas.{root_least, some_if, tree_after}
 use Rattle.xr_change.proofs.cut.replace_in.Goals as goal
 
 pub replace_below-requires-clause-some : goal.replace_below-requires-clause-some

@@ -1,5 +1,5 @@
 use Rattle.std.proofs.Common.{◌∙◌, arith}
-use Rattle.xr_change.proofs.Dealing.{copy_count, copy_sealed, share_dealt}
+use Rattle.xr_change.proofs.ItemMoveLemmas.{copy_count, copy_sealed, share_dealt}
 use Rattle.xr_change.proofs.deal.share_items.Goals as goal
 
 pub gather-requires : goal.gather-requires

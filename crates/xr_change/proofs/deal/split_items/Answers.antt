@@ -1,6 +1,6 @@
 use Rattle.std.proofs.Common.{Option, ◌∙◌, subst, arith}
 use Rattle.std.specs.Option.{option_to_list}
-use Rattle.xr_change.proofs.Dealing.{copy_count, copy_sealed, split_dealt}
+use Rattle.xr_change.proofs.ItemMoveLemmas.{copy_count, copy_sealed, split_dealt}
 use Rattle.xr_change.specs.Writes.{Writes}
 use Rattle.xr_change.proofs.deal.split_items.Goals as goal
 

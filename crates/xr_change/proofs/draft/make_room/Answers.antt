@@ -1,6 +1,6 @@
 use Rattle.std.proofs.Common.{List, ℕ, ap, ◌∙◌}
-use Rattle.xr_blocks.specs.Overlay.{pool_size}
-use Rattle.xr_change.proofs.Sealing.{none_edited, sealed_size}
+use Rattle.xr_pool.specs.Overlay.{pool_size}
+use Rattle.xr_change.proofs.SealLemmas.{none_edited, sealed_size}
 use Rattle.xr_change.specs.Draft.{all_sealed}
 use Rattle.xr_change.proofs.draft.make_room.Goals as goal
 

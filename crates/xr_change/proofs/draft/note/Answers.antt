@@ -1,8 +1,8 @@
 use Rattle.std.proofs.Common.{refl, ◌≡◌, ◌<◌, List, ℕ, true, ap, sym, subst, ◌∙◌, arith}
-use Rattle.xr_blocks.specs.Overlay.{Blocks, block_at, pool_size, with_block}
-use Rattle.xr_change.proofs.Sealing.{block_reads, edited_more, edited_others, lent}
+use Rattle.xr_pool.specs.Overlay.{Blocks, block_at, pool_size, with_block}
+use Rattle.xr_change.proofs.SealLemmas.{block_reads, edited_more, edited_others, lent}
 use Rattle.xr_change.specs.Draft.{ReadsAs, all_sealed, is_edited}
-use Rattle.xr_edit.specs.Edit.{sealed}
+use Rattle.xr_block.specs.Edits.{sealed}
 use Rattle.xr_change.proofs.draft.note.Goals as goal
 
 pub returns-then-contains-clause-reads : goal.returns-then-contains-clause-reads

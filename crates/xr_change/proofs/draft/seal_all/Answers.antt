@@ -1,9 +1,9 @@
 use Rattle.std.proofs.Common.{rules, ◌≡◌, ◌<◌, ℕ, List, [], ◌∷◌, ◌++◌, ap, sym, subst, ◌∙◌}
 use Rattle.std.specs.Option.{option_to_list}
-use Rattle.xr_blocks.specs.Overlay.{block_at, pool_size}
-use Rattle.xr_change.proofs.Sealing.{edited_has, edited_more, none_edited, one_less, sealed_less}
+use Rattle.xr_pool.specs.Overlay.{block_at, pool_size}
+use Rattle.xr_change.proofs.SealLemmas.{edited_has, edited_more, none_edited, one_less, sealed_less}
 use Rattle.xr_change.specs.Draft.{AreEdited, all_sealed}
-use Rattle.xr_edit.specs.Edit.{sealed}
+use Rattle.xr_block.specs.Edits.{sealed}
 use Rattle.xr_change.proofs.draft.seal_all.Goals as goal
 
 pub loop-n-preserved : goal.loop-n-preserved

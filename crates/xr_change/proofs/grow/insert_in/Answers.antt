@@ -1,10 +1,10 @@
 use Rattle.std.proofs.Common.{◌≡◌, ◌∙◌, ℕ, Bool, true, if◌then◌else◌, [], ◌∷◌, sym, ap, subst, arith}
-use Rattle.xr_blocks.specs.FrameLaws.{then_changes}
-use Rattle.xr_blocks.specs.Tree.{AreRecords}
-use Rattle.xr_change.proofs.FullWays.{full_if, room_if}
+use Rattle.xr_block.specs.FrameLaws.{then_changes}
+use Rattle.xr_block.specs.Tree.{AreRecords}
+use Rattle.xr_change.proofs.FullPathLemmas.{full_if, room_if}
 use Rattle.xr_change.proofs.SetLemmas.{inserted_has}
-use Rattle.xr_change.proofs.Written.{unmarked_few}
-use Rattle.xr_change.proofs.WholeChanges.{changed_frame, changed_tree, root_few, root_here, root_least, some_if, tree_after}
+use Rattle.xr_change.proofs.WriteLemmas.{unmarked_few}
+use Rattle.xr_change.proofs.WholeTreeLemmas.{changed_frame, changed_tree, root_few, root_here, root_least, some_if, tree_after}
 use Rattle.xr_change.specs.Sets.{inserted}
 use Rattle.xr_change.specs.Writes.{unchanged}
 use Rattle.xr_change.proofs.grow.insert_in.Goals as goal

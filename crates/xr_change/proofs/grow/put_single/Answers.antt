@@ -1,8 +1,8 @@
 use Rattle.std.proofs.Common.{◌∙◌, [], ◌∷◌, sym, ap, append-nil}
 use Rattle.byteorder.specs.Endian.{big_bytes}
-use Rattle.xr_blocks.specs.Form.{pointer_size}
-use Rattle.xr_blocks.specs.TreeBlock.{Entry}
-use Rattle.xr_change.proofs.WholeChanges.{one_entry}
+use Rattle.xr_kinds.specs.Form.{pointer_size}
+use Rattle.xr_block.specs.TreeBlock.{Entry}
+use Rattle.xr_change.proofs.WholeTreeLemmas.{one_entry}
 use Rattle.xr_change.proofs.grow.put_single.Goals as goal
 
 pub returns : goal.returns

@@ -1,8 +1,8 @@
 use Rattle.std.proofs.Common.{[], ◌∷◌, sym, subst}
-use Rattle.xr_blocks.specs.Overlay.{Blocks}
-use Rattle.xr_blocks.specs.Rows.{half}
-use Rattle.xr_change.proofs.InTree.{one_more}
-use Rattle.xr_change.proofs.WholeChanges.{raised, rows_taken}
+use Rattle.xr_pool.specs.Overlay.{Blocks}
+use Rattle.xr_block.specs.Rows.{half}
+use Rattle.xr_change.proofs.BlockInTreeLemmas.{one_more}
+use Rattle.xr_change.proofs.WholeTreeLemmas.{raised, rows_taken}
 use Rattle.xr_change.specs.Alters.{AreRowsIn}
 use Rattle.xr_change.proofs.grow.raise.Goals as goal
 

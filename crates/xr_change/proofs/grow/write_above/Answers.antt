@@ -1,20 +1,20 @@
 use Rattle.std.proofs.Common.{◌≡◌, ◌+◌, ◌^◌, ◌∙◌, ◌<◌, ℕ, [], ◌∷◌, None, refl, arith}
-use Rattle.xr_blocks.specs.Form.{Form, IsForm, pointer_size}
-use Rattle.xr_blocks.specs.Overlay.{Blocks}
-use Rattle.xr_blocks.specs.OverlayLaws.{block_written}
-use Rattle.xr_blocks.specs.Rows.{half}
-use Rattle.xr_blocks.specs.Tree.{site_of}
-use Rattle.xr_blocks.specs.TreeBlock.{Entry, Place}
-use Rattle.xr_change.proofs.Editing.{key_read}
-use Rattle.xr_change.proofs.Reading.{read_keyed}
-use Rattle.xr_change.proofs.WholeChanges.{pointer_fits}
-use Rattle.xr_change.proofs.Stepping.{row_below, row_keyed}
-use Rattle.xr_change.proofs.ParentFacts.{level_small}
-use Rattle.xr_change.proofs.Written.{block_writes}
+use Rattle.xr_kinds.specs.Form.{Form, IsForm, pointer_size}
+use Rattle.xr_pool.specs.Overlay.{Blocks}
+use Rattle.xr_pool.specs.OverlayLaws.{block_written}
+use Rattle.xr_block.specs.Rows.{half}
+use Rattle.xr_block.specs.Tree.{site_of}
+use Rattle.xr_block.specs.TreeBlock.{Entry, Place}
+use Rattle.xr_change.proofs.EditLemmas.{key_read}
+use Rattle.xr_change.proofs.ReadLemmas.{read_keyed}
+use Rattle.xr_change.proofs.WholeTreeLemmas.{pointer_fits}
+use Rattle.xr_change.proofs.StepLemmas.{row_below, row_keyed}
+use Rattle.xr_change.proofs.ParentLemmas.{level_small}
+use Rattle.xr_change.proofs.WriteLemmas.{block_writes}
 use Rattle.xr_change.specs.Alters.{AreKnown, AreRowsIn}
 use Rattle.xr_change.specs.Regroups.{entry_for}
-use Rattle.xr_edit.specs.Edit.{sealed}
-use Rattle.xr_lookup.specs.UnderLaws.{half_some}
+use Rattle.xr_block.specs.Edits.{sealed}
+use Rattle.xr_block.specs.UnderLaws.{half_some}
 use Rattle.xr_change.proofs.grow.write_above.Goals as goal
 
 -- few levels stand below a root

@@ -1,5 +1,5 @@
 use Rattle.std.proofs.Common.{◌≡◌, ◌-◌, suc, arith}
-use Rattle.xr_change.proofs.Stepping.{inserts_above, may_mend}
+use Rattle.xr_change.proofs.StepLemmas.{inserts_above, may_mend}
 use Rattle.xr_change.specs.Sets.{inserted}
 use Rattle.xr_change.proofs.insertion.+insert_below.Goals as goal
 

@@ -1,6 +1,6 @@
 use Rattle.std.proofs.Common.{ℕ, sym, subst, arith}
-use Rattle.xr_change.proofs.InTree.{one_more}
-use Rattle.xr_change.proofs.WholeChanges.{root_less, some_if}
+use Rattle.xr_change.proofs.BlockInTreeLemmas.{one_more}
+use Rattle.xr_change.proofs.WholeTreeLemmas.{root_less, some_if}
 use Rattle.xr_change.specs.Ways.{IsInTree}
 use Rattle.xr_change.proofs.insertion.step_down.Goals as goal
 

@@ -1,15 +1,15 @@
 use Rattle.std.proofs.Common.{◌≡◌, ◌∙◌, List, [], ◌∷◌, refl, sym, subst}
-use Rattle.xr_blocks.specs.Overlay.{block_at}
-use Rattle.xr_blocks.specs.Rows.{half, key_held}
-use Rattle.xr_blocks.specs.Tree.{tree_held}
-use Rattle.xr_blocks.specs.TreeBlock.{Entry}
-use Rattle.xr_change.proofs.Editing.{edited_node, key_read}
-use Rattle.xr_change.proofs.Reading.{read_key, read_keyed}
-use Rattle.xr_change.proofs.Stepping.{keyed_again, row_below, row_keyed}
-use Rattle.xr_change.proofs.Written.{block_writes}
+use Rattle.xr_pool.specs.Overlay.{block_at}
+use Rattle.xr_block.specs.Rows.{half, key_held}
+use Rattle.xr_block.specs.Tree.{tree_held}
+use Rattle.xr_block.specs.TreeBlock.{Entry}
+use Rattle.xr_change.proofs.EditLemmas.{edited_node, key_read}
+use Rattle.xr_change.proofs.ReadLemmas.{read_key, read_keyed}
+use Rattle.xr_change.proofs.StepLemmas.{keyed_again, row_below, row_keyed}
+use Rattle.xr_change.proofs.WriteLemmas.{block_writes}
 use Rattle.xr_change.specs.Writes.{Writes}
-use Rattle.xr_edit.specs.Edit.{IsNodeOf, sealed, with_key}
-use Rattle.xr_node.specs.Node.{key_in}
+use Rattle.xr_block.specs.Edits.{IsNodeOf, sealed, with_key}
+use Rattle.xr_block.specs.NodeEntries.{key_in}
 use Rattle.xr_change.proofs.mend.mend_key.Goals as goal
 
 pub block-requires : goal.block-requires

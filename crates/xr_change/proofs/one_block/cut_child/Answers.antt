@@ -1,6 +1,6 @@
 use Rattle.std.specs.List.{remove}
-use Rattle.xr_change.proofs.Editing.{edited_node}
-use Rattle.xr_change.proofs.Written.{block_writes}
+use Rattle.xr_change.proofs.EditLemmas.{edited_node}
+use Rattle.xr_change.proofs.WriteLemmas.{block_writes}
 use Rattle.xr_change.proofs.one_block.cut_child.Goals as goal
 
 pub returns-clause-writes : goal.returns-clause-writes

@@ -1,4 +1,4 @@
-use Rattle.xr_change.proofs.Written.{block_writes}
+use Rattle.xr_change.proofs.WriteLemmas.{block_writes}
 use Rattle.xr_change.proofs.one_block.gather.Goals as goal
 
 pub returns-clause-writes : goal.returns-clause-writes

@@ -1,10 +1,10 @@
 use Rattle.std.proofs.Common.{◌≡◌, refl, ◌∙◌}
 use Rattle.std.specs.List.{insert}
-use Rattle.xr_blocks.specs.Rows.{key_held}
-use Rattle.xr_blocks.specs.Tree.{tree_held}
-use Rattle.xr_change.proofs.Editing.{key_read, edited_node}
-use Rattle.xr_change.proofs.Reading.{read_keyed}
-use Rattle.xr_change.proofs.Written.{block_writes}
+use Rattle.xr_block.specs.Rows.{key_held}
+use Rattle.xr_block.specs.Tree.{tree_held}
+use Rattle.xr_change.proofs.EditLemmas.{key_read, edited_node}
+use Rattle.xr_change.proofs.ReadLemmas.{read_keyed}
+use Rattle.xr_change.proofs.WriteLemmas.{block_writes}
 use Rattle.xr_change.specs.Regroups.{entry_for}
 use Rattle.xr_change.proofs.one_block.put_child.Goals as goal
 

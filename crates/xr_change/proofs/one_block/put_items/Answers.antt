@@ -1,4 +1,4 @@
-use Rattle.xr_change.proofs.ItemFacts.{gathers_by}
+use Rattle.xr_change.proofs.RowItemLemmas.{gathers_by}
 use Rattle.xr_change.proofs.one_block.put_items.Goals as goal
 
 pub returns-then-level-eq0 : goal.returns-then-level-eq0

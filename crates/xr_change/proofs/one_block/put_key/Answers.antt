@@ -1,4 +1,4 @@
-use Rattle.xr_change.proofs.ItemFacts.{key_by}
+use Rattle.xr_change.proofs.RowItemLemmas.{key_by}
 use Rattle.xr_change.proofs.one_block.put_key.Goals as goal
 
 pub returns-then-level-eq0 : goal.returns-then-level-eq0

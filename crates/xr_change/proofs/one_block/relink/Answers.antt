@@ -1,11 +1,11 @@
 use Rattle.std.proofs.Common.{◌≡◌, ℕ, Some, List, sym, subst, ◌∙◌}
-use Rattle.xr_blocks.specs.Overlay.{block_at, with_block}
-use Rattle.xr_blocks.specs.OverlayLaws.{block_written}
-use Rattle.xr_blocks.specs.Tree.{site_of}
-use Rattle.xr_blocks.specs.TreeBlock.{tree_block}
-use Rattle.xr_change.proofs.Editing.{tree_read}
-use Rattle.xr_change.proofs.Written.{block_writes, writes_if}
-use Rattle.xr_edit.specs.Edit.{sealed}
+use Rattle.xr_pool.specs.Overlay.{block_at, with_block}
+use Rattle.xr_pool.specs.OverlayLaws.{block_written}
+use Rattle.xr_block.specs.Tree.{site_of}
+use Rattle.xr_block.specs.TreeBlock.{tree_block}
+use Rattle.xr_change.proofs.EditLemmas.{tree_read}
+use Rattle.xr_change.proofs.WriteLemmas.{block_writes, writes_if}
+use Rattle.xr_block.specs.Edits.{sealed}
 use Rattle.xr_change.proofs.one_block.relink.Goals as goal
 
 pub returns-in-Some-clause-writes : goal.returns-in-Some-clause-writes

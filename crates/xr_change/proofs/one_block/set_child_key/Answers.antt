@@ -1,10 +1,10 @@
 use Rattle.std.proofs.Common.{◌≡◌, refl, ◌∙◌}
-use Rattle.xr_blocks.specs.Rows.{key_held}
-use Rattle.xr_blocks.specs.Tree.{tree_held}
-use Rattle.xr_change.proofs.Editing.{key_read, edited_node}
-use Rattle.xr_change.proofs.Reading.{read_keyed}
-use Rattle.xr_change.proofs.Written.{block_writes}
-use Rattle.xr_edit.specs.Edit.{with_key}
+use Rattle.xr_block.specs.Rows.{key_held}
+use Rattle.xr_block.specs.Tree.{tree_held}
+use Rattle.xr_change.proofs.EditLemmas.{key_read, edited_node}
+use Rattle.xr_change.proofs.ReadLemmas.{read_keyed}
+use Rattle.xr_change.proofs.WriteLemmas.{block_writes}
+use Rattle.xr_block.specs.Edits.{with_key}
 use Rattle.xr_change.proofs.one_block.set_child_key.Goals as goal
 
 pub put_key-requires-clause-keyed : goal.put_key-requires-clause-keyed

@@ -1,6 +1,6 @@
 use Rattle.std.proofs.Common.{[], arith, ap}
-use Rattle.xr_blocks.proofs.Times.{times_same}
-use Rattle.xr_change.proofs.Rearranging.{first_key, merge_below, merge_made, merge_moves, next_key, pair_ready}
+use Rattle.xr_block.specs.TimesLaws.{times_same}
+use Rattle.xr_change.proofs.RebalanceLemmas.{first_key, merge_below, merge_made, merge_moves, next_key, pair_ready}
 use Rattle.xr_change.specs.Ways.{item_count}
 use Rattle.xr_change.proofs.rearrange.merge_children.Goals as goal
 

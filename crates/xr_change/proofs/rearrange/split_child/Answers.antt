@@ -1,6 +1,6 @@
 use Rattle.std.proofs.Common.{[], arith}
-use Rattle.xr_change.proofs.Rearranging.{first_key, next_key, split_made, split_moves, split_ready}
-use Rattle.xr_blocks.proofs.Times.{times_same}
+use Rattle.xr_change.proofs.RebalanceLemmas.{first_key, next_key, split_made, split_moves, split_ready}
+use Rattle.xr_block.specs.TimesLaws.{times_same}
 use Rattle.xr_change.proofs.rearrange.split_child.Goals as goal
 
 pub split_items-requires : goal.split_items-requires

@@ -1,5 +1,5 @@
 use Rattle.std.proofs.Common.{◌≡◌, ◌-◌, suc, arith}
-use Rattle.xr_change.proofs.Stepping.{removes_above, may_mend}
+use Rattle.xr_change.proofs.StepLemmas.{removes_above, may_mend}
 use Rattle.xr_change.specs.Sets.{removed}
 use Rattle.xr_change.proofs.removal.+remove_below.Goals as goal
 

@@ -1,5 +1,5 @@
 use Rattle.std.proofs.Common.{◌≡◌, ◌-◌, suc, refl, arith}
-use Rattle.xr_change.proofs.Stepping.{replaces_above, may_mend}
+use Rattle.xr_change.proofs.StepLemmas.{replaces_above, may_mend}
 use Rattle.xr_change.specs.Sets.{replaced}
 use Rattle.xr_change.proofs.replacement.+replace_below.Goals as goal
 

@@ -1,8 +1,8 @@
 use Rattle.std.proofs.Common.{ℕ, [], ◌∷◌, sym, subst, arith, Contains}
-use Rattle.xr_blocks.specs.Tree.{records_of}
-use Rattle.xr_change.proofs.Descent.{child_least, held_on_way, replaced_there, way_here}
-use Rattle.xr_change.proofs.InTree.{node_in}
-use Rattle.xr_change.proofs.WholeChanges.{root_less, some_if}
+use Rattle.xr_block.specs.Tree.{records_of}
+use Rattle.xr_change.proofs.DescentLemmas.{child_least, held_on_way, replaced_there, way_here}
+use Rattle.xr_change.proofs.BlockInTreeLemmas.{node_in}
+use Rattle.xr_change.proofs.WholeTreeLemmas.{root_less, some_if}
 use Rattle.xr_change.specs.Sets.{replaced}
 use Rattle.xr_change.specs.Ways.{HasSome}
 use Rattle.xr_change.proofs.replacement.step_down.Goals as goal

@@ -1,6 +1,6 @@
 use Rattle.std.proofs.Common.{◌∙◌, ap, sym}
-use Rattle.xr_change.proofs.FullWays.{full_read, most_of_node}
-use Rattle.xr_change.proofs.InTree.{in_pool}
+use Rattle.xr_change.proofs.FullPathLemmas.{full_read, most_of_node}
+use Rattle.xr_change.proofs.BlockInTreeLemmas.{in_pool}
 use Rattle.xr_change.specs.Ways.{item_most}
 use Rattle.xr_change.proofs.room.is_full.Goals as goal
 

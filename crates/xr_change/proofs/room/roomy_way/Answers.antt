@@ -1,10 +1,10 @@
 use Rattle.std.proofs.Common.{◌∙◌, ◌<◌, length, sym, ap, arith, ℕ}
-use Rattle.xr_blocks.specs.Overlay.{block_at}
-use Rattle.xr_blocks.specs.TreeBlock.{entries_in}
-use Rattle.xr_change.proofs.Descent.{child_in_tree}
-use Rattle.xr_change.proofs.FullWays.{full_below, full_if, full_some, room_if}
-use Rattle.xr_change.proofs.InTree.{node_in, node_items, one_more}
-use Rattle.xr_change.proofs.Rooming.{room_here}
+use Rattle.xr_pool.specs.Overlay.{block_at}
+use Rattle.xr_block.specs.TreeBlock.{entries_in}
+use Rattle.xr_change.proofs.DescentLemmas.{child_in_tree}
+use Rattle.xr_change.proofs.FullPathLemmas.{full_below, full_if, full_some, room_if}
+use Rattle.xr_change.proofs.BlockInTreeLemmas.{node_in, node_items, one_more}
+use Rattle.xr_change.proofs.RoomLemmas.{room_here}
 use Rattle.xr_change.specs.Ways.{child_of, full_on_way, is_full}
 use Rattle.xr_change.proofs.room.roomy_way.Goals as goal
 

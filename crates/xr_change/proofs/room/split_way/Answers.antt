@@ -1,7 +1,7 @@
 use Rattle.std.proofs.Common.{◌≡◌, ℕ, sym, subst, arith}
 use Rattle.std.specs.declared.cmp.Ordering.TheVariants.{Less}
-use Rattle.xr_change.proofs.InTree.{node_in, node_items, one_more}
-use Rattle.xr_change.proofs.Rooming.{before_now, behind_now, one_more_now, room_made, split_here}
+use Rattle.xr_change.proofs.BlockInTreeLemmas.{node_in, node_items, one_more}
+use Rattle.xr_change.proofs.RoomLemmas.{before_now, behind_now, one_more_now, room_made, split_here}
 use Rattle.xr_change.specs.Ways.{IsInTree}
 use Rattle.xr_change.proofs.room.split_way.Goals as goal
 

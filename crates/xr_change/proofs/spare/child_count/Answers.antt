@@ -1,7 +1,7 @@
 use Rattle.std.proofs.Common.{rules, ap, arith}
-use Rattle.xr_change.proofs.Dealing.{placed_count}
-use Rattle.xr_change.proofs.InTree.{in_pool}
-use Rattle.xr_change.proofs.ParentFacts.{kth_child}
+use Rattle.xr_change.proofs.ItemMoveLemmas.{placed_count}
+use Rattle.xr_change.proofs.BlockInTreeLemmas.{in_pool}
+use Rattle.xr_change.proofs.ParentLemmas.{kth_child}
 use Rattle.xr_change.specs.Ways.{item_count}
 use Rattle.xr_change.proofs.spare.child_count.Goals as goal
 

@@ -1,7 +1,7 @@
 use Rattle.std.proofs.Common.{◌≡◌, ◌+◌, arith, sym}
-use Rattle.xr_change.proofs.InTree.{node_in}
-use Rattle.xr_change.proofs.ItemFacts.{half_is}
-use Rattle.xr_change.proofs.Sparing.{merge_spare, share_first, share_second}
+use Rattle.xr_change.proofs.BlockInTreeLemmas.{node_in}
+use Rattle.xr_change.proofs.RowItemLemmas.{half_is}
+use Rattle.xr_change.proofs.SurplusLemmas.{merge_spare, share_first, share_second}
 use Rattle.xr_change.proofs.spare.fill_child.Goals as goal
 
 pub returns-then-all-most_of : goal.returns-then-all-most_of

@@ -1,8 +1,8 @@
 use Rattle.std.proofs.Common.{arith}
-use Rattle.xr_change.proofs.Descent.{held_on_way}
-use Rattle.xr_change.proofs.InTree.{node_in, node_items}
-use Rattle.xr_change.proofs.ItemFacts.{half_is}
-use Rattle.xr_change.proofs.Sparing.{spare_here}
+use Rattle.xr_change.proofs.DescentLemmas.{held_on_way}
+use Rattle.xr_change.proofs.BlockInTreeLemmas.{node_in, node_items}
+use Rattle.xr_change.proofs.RowItemLemmas.{half_is}
+use Rattle.xr_change.proofs.SurplusLemmas.{spare_here}
 use Rattle.xr_change.proofs.spare.spare_way.Goals as goal
 
 pub returns-then-child_count-most_of : goal.returns-then-child_count-most_of

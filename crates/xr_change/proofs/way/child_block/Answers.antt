@@ -1,16 +1,16 @@
 use Rattle.std.proofs.Common.{◌≡◌, ◌+◌, ◌∙◌, ◌<◌, ℕ, List, [], length, sym, ap, subst, arith}
 use Rattle.std.proofs.lemmas.List.{get_or-map}
-use Rattle.xr_blocks.specs.Form.{Form}
-use Rattle.xr_blocks.specs.Overlay.{Blocks, block_at}
-use Rattle.xr_blocks.specs.TreeBlock.{Entry, entries_in}
-use Rattle.xr_change.proofs.Descent.{child_in_tree}
-use Rattle.xr_change.proofs.InTree.{in_pool, node_in, node_room}
-use Rattle.xr_change.proofs.ParentFacts.{kth_of}
-use Rattle.xr_change.proofs.Reading.{read_child}
+use Rattle.xr_kinds.specs.Form.{Form}
+use Rattle.xr_pool.specs.Overlay.{Blocks, block_at}
+use Rattle.xr_block.specs.TreeBlock.{Entry, entries_in}
+use Rattle.xr_change.proofs.DescentLemmas.{child_in_tree}
+use Rattle.xr_change.proofs.BlockInTreeLemmas.{in_pool, node_in, node_room}
+use Rattle.xr_change.proofs.ParentLemmas.{kth_of}
+use Rattle.xr_change.proofs.ReadLemmas.{read_child}
 use Rattle.xr_change.specs.Draft.{ReadsAs}
 use Rattle.xr_change.specs.Ways.{IsInTree, child_of}
-use Rattle.xr_node.specs.Node.{child_in}
-use Rattle.xr_node.specs.NodeLaws.{entry_read, length-entries}
+use Rattle.xr_block.specs.NodeEntries.{child_in}
+use Rattle.xr_block.specs.NodeEntryLaws.{entry_read, length-entries}
 use Rattle.xr_change.proofs.way.child_block.Goals as goal
 
 -- the child that is read at a place of a node

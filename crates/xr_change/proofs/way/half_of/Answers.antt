@@ -1,9 +1,9 @@
 use Rattle.std.proofs.Common.{◌∙◌, inl, inr, refl, ◌+◌, arith}
-use Rattle.xr_blocks.specs.Overlay.{block_at}
-use Rattle.xr_change.proofs.InTree.{in_pool, is_under, node_in, node_items}
-use Rattle.xr_change.proofs.FullWays.{passed, way_first, way_second}
-use Rattle.xr_lookup.proofs.DescentLemmas.{node_few}
-use Rattle.xr_node.specs.NodeLaws.{length-entries}
+use Rattle.xr_pool.specs.Overlay.{block_at}
+use Rattle.xr_change.proofs.BlockInTreeLemmas.{in_pool, is_under, node_in, node_items}
+use Rattle.xr_change.proofs.FullPathLemmas.{passed, way_first, way_second}
+use Rattle.xr_block.specs.DescentLaws.{node_few}
+use Rattle.xr_block.specs.NodeEntryLaws.{length-entries}
 use Rattle.xr_change.proofs.way.half_of.Goals as goal
 
 pub block-requires : goal.block-requires

@@ -1,12 +1,12 @@
 use Rattle.std.proofs.Common.{◌+◌, List, sym, subst, arith}
-use Rattle.xr_blocks.specs.Overlay.{block_at}
-use Rattle.xr_blocks.specs.TreeBlock.{Entry, entries_in}
-use Rattle.xr_change.proofs.InTree.{in_pool, is_under, node_in, node_items}
-use Rattle.xr_change.proofs.FullWays.{passing_is, way_at}
-use Rattle.xr_change.proofs.Reading.{read_entries}
-use Rattle.xr_lookup.proofs.DescentLemmas.{node_few, node_parted}
-use Rattle.xr_lookup.specs.Cuts.{IsParted, IsPlaceOf, entry_is_before}
-use Rattle.xr_lookup.specs.declared.cut.Cut.TheVariants.{Behind}
+use Rattle.xr_pool.specs.Overlay.{block_at}
+use Rattle.xr_block.specs.TreeBlock.{Entry, entries_in}
+use Rattle.xr_change.proofs.BlockInTreeLemmas.{in_pool, is_under, node_in, node_items}
+use Rattle.xr_change.proofs.FullPathLemmas.{passing_is, way_at}
+use Rattle.xr_change.proofs.ReadLemmas.{read_entries}
+use Rattle.xr_block.specs.DescentLaws.{node_few, node_parted}
+use Rattle.xr_block.specs.Bounds.{IsParted, IsPlaceOf, entry_is_before}
+use Rattle.xr_block.specs.declared.bound.Cut.TheVariants.{Behind}
 use Rattle.xr_change.proofs.way.way_of.Goals as goal
 
 pub block-requires : goal.block-requires

@@ -3,8 +3,8 @@ use Rattle.std.specs.String.{string_bytes}
 use Rattle.std.proofs.lemmas.Result.{err_from_is_err_and}
 use Rattle.xr_base.specs.Cause.{Rose}
 use Rattle.xr_cmd.specs.Expect.{Expects}
-use Rattle.xr_cmd.specs.Script.{IsFaultOf}
-use Rattle.xr_cmd.proofs.Answering.{expects_of, read_to_end, read_failure, script_failure}
+use Rattle.xr_cmd.specs.Script.{IsScriptFault}
+use Rattle.xr_cmd.proofs.AnswerLemmas.{expects_of, read_to_end, read_failure, script_failure}
 use Rattle.xr_cmd.proofs.expect.expect.Goals as goal
 
 pub returns-in_err-script-clause-failure : goal.returns-in_err-script-clause-failure
@@ -18,7 +18,7 @@ returns-in_err-records_text-clause-failure g c =
     let p = err_from_is_err_and c.from_residual-in_err-records_text.result c.from_residual-in_err-records_text.ensures.1 in
     rw (p.1, p.2) (script_failure (g.I.Source.left c.args.source.now) (Rose (g.I.Source.faults c.args.source.now) (g.I.Source.faults c.read_front.new.source))
     c.in_ok-script.script.items c.in_err-records_text.field-0.0 c.in_ok-script.ensures.front
-    (subst (λ bytes. IsFaultOf bytes c.in_err-records_text.field-0.0) c.deref.ensures.value c.in_err-records_text.ensures.fault))
+    (subst (λ bytes. IsScriptFault bytes c.in_err-records_text.field-0.0) c.deref.ensures.value c.in_err-records_text.ensures.fault))
 
 pub returns-clause-text : goal.returns-clause-text
 returns-clause-text g c =

@@ -3,7 +3,7 @@ use Rattle.std.specs.String.{string_bytes}
 use Rattle.xr_maps.specs.Records.{AreExtents}
 use Rattle.xr_cmd.specs.Expect.{files_text}
 use Rattle.xr_cmd.specs.RecordText.{extents_text}
-use Rattle.xr_cmd.proofs.PrintedLists.{no_lists, appends_more, files_text-push}
+use Rattle.xr_cmd.proofs.ListTextLemmas.{no_lists, appends_more, files_text-push}
 use Rattle.xr_cmd.proofs.expect.push_all_extents.Goals as goal
 
 pub loop-file-init : goal.loop-file-init

@@ -3,7 +3,7 @@ use Rattle.std.specs.List.{flat_map}
 use Rattle.std.specs.String.{string_bytes}
 use Rattle.xr_maps.specs.Records.{AreReferenceRecords}
 use Rattle.xr_cmd.specs.RecordText.{shared_text}
-use Rattle.xr_cmd.proofs.PrintedLists.{no_lists, appends_more, flat_map-push}
+use Rattle.xr_cmd.proofs.ListTextLemmas.{no_lists, appends_more, flat_map-push}
 use Rattle.xr_cmd.proofs.expect.push_all_shared.Goals as goal
 
 pub loop-group-init : goal.loop-group-init

@@ -1,5 +1,5 @@
 use Rattle.xr_cmd.specs.Script.{lines_of}
-use Rattle.xr_cmd.proofs.StepLines.{All-fits}
+use Rattle.xr_cmd.proofs.StepLineLemmas.{All-fits}
 use Rattle.xr_cmd.proofs.expect.records_text.Goals as goal
 
 pub maps_of-requires : goal.maps_of-requires

@@ -1,7 +1,7 @@
 use Rattle.std.proofs.Common.{arith, None, Some}
 use Rattle.std.specs.Fmt.{decimal}
 use Rattle.std.proofs.lemmas.Str.Pattern.{split_after}
-use Rattle.xr_cmd.proofs.NumberWords.{decimal_no_space}
+use Rattle.xr_cmd.proofs.NumberLemmas.{decimal_no_space}
 use Rattle.xr_cmd.proofs.fields.field.Goals as goal
 
 pub returns-in_err-word : goal.returns-in_err-word

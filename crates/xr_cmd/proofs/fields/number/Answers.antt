@@ -1,5 +1,5 @@
 use Rattle.std.proofs.Common.{arith, ◌∙◌}
-use Rattle.xr_cmd.proofs.NumberWords.{decimal_first, number_from_parse}
+use Rattle.xr_cmd.proofs.NumberLemmas.{decimal_first, number_from_parse}
 use Rattle.xr_cmd.proofs.fields.number.Goals as goal
 use Rattle.xr_cmd.proofs.fields.number.Goals.{else-word-gt1-via-then-word-gt1+else-as_bytes-le48, else-word-gt1-via-else-word-gt1}
 

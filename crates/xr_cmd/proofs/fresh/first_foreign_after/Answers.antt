@@ -1,6 +1,6 @@
 use Rattle.std.proofs.Common.{arith}
 use Rattle.xr_cmd.proofs.FreshLemmas.{search_begins, search_goes_on, search_finds, search_ends}
-use Rattle.xr_cmd.proofs.MakingLemmas.{seen_is_long}
+use Rattle.xr_cmd.proofs.MkfsLemmas.{seen_is_long}
 use Rattle.xr_cmd.proofs.fresh.first_foreign_after.Goals as goal
 
 pub loop-block-init : goal.loop-block-init

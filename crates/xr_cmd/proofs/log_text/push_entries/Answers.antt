@@ -1,7 +1,7 @@
 use Rattle.std.proofs.Common.{◌++◌, ◌∙◌, sym, ap, add-one, arith}
 use Rattle.std.proofs.lemmas.List.{append_assoc}
 use Rattle.std.specs.String.{string_bytes}
-use Rattle.xr_cmd.proofs.PrintedLogs.{one_more}
+use Rattle.xr_cmd.proofs.LogTextLemmas.{one_more}
 use Rattle.xr_cmd.proofs.log_text.push_entries.Goals as goal
 
 pub loop-i-preserved : goal.loop-i-preserved

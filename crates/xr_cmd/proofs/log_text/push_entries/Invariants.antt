@@ -1,6 +1,6 @@
 use Rattle.std.proofs.Common.{◌≡◌, ◌++◌}
 use Rattle.std.specs.String.{string_bytes}
-use Rattle.xr_cmd.proofs.PrintedLogs.{text_upto}
+use Rattle.xr_cmd.proofs.LogTextLemmas.{text_upto}
 use Rattle.xr_cmd.proofs.log_text.push_entries.Given as goal
 
 abbrev pub invariant-loop-i : goal.invariant-loop-i

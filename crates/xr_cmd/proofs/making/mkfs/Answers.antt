@@ -1,6 +1,6 @@
 use Rattle.std.proofs.Common.{refl, replicate}
 use Rattle.xr_base.specs.declared.geometry.TheConstants.{BLOCK_BYTES}
-use Rattle.xr_cmd.proofs.MakingLemmas.{seen_is_long, made_at_rest}
+use Rattle.xr_cmd.proofs.MkfsLemmas.{seen_is_long, made_at_rest}
 use Rattle.xr_cmd.proofs.making.mkfs.Goals as goal
 
 pub returns-clause-made : goal.returns-clause-made

@@ -1,4 +1,4 @@
-use Rattle.xr_cmd.proofs.MakingLemmas.{making_more}
+use Rattle.xr_cmd.proofs.MkfsLemmas.{making_more}
 use Rattle.xr_cmd.proofs.making.write_body.Goals as goal
 
 pub loop-block-preserved : goal.loop-block-preserved

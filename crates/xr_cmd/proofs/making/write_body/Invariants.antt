@@ -1,4 +1,4 @@
-use Rattle.xr_cmd.proofs.MakingLemmas.{IsMaking}
+use Rattle.xr_cmd.proofs.MkfsLemmas.{IsMaking}
 use Rattle.xr_cmd.proofs.making.write_body.Given as goal
 
 abbrev pub invariant-loop-block : goal.invariant-loop-block

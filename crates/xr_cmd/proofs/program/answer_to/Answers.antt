@@ -1,6 +1,6 @@
 use Rattle.std.specs.Cow.{cow_str_bytes}
 use Rattle.xr_cmd.specs.Words.{texts_of}
-use Rattle.xr_cmd.proofs.Answering.{says_refused}
+use Rattle.xr_cmd.proofs.AnswerLemmas.{says_refused}
 use Rattle.xr_cmd.proofs.program.answer_to.Goals as goal
 
 pub returns-in-Err-clause-says : goal.returns-in-Err-clause-says

@@ -1,5 +1,5 @@
 use Rattle.std.specs.Cow.{cow_str_bytes}
-use Rattle.xr_cmd.proofs.Answering.{said_done}
+use Rattle.xr_cmd.proofs.AnswerLemmas.{said_done}
 use Rattle.xr_cmd.proofs.program.xreflink.Goals as goal
 
 pub returns-clause-ends : goal.returns-clause-ends

@@ -1,5 +1,5 @@
-use Rattle.xr_cmd.proofs.NumberWords.{AreNumbers-front, AreNumbers-rest, AreNumbers-last}
-use Rattle.xr_cmd.proofs.StepLines.{IsStepAfter-exchange}
+use Rattle.xr_cmd.proofs.NumberLemmas.{AreNumbers-front, AreNumbers-rest, AreNumbers-last}
+use Rattle.xr_cmd.proofs.StepLineLemmas.{IsStepAfter-exchange}
 use Rattle.xr_cmd.proofs.script.exchange_of.Goals as goal
 
 pub returns-in_err-off : goal.returns-in_err-off

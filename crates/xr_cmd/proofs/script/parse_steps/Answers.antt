@@ -1,7 +1,7 @@
 use Rattle.std.proofs.Common.{◌<◌, length, arith, rules, inl, inr}
 use Rattle.std.proofs.lemmas.Bool.Decides.{nat_tests}
 use Rattle.xr_cmd.specs.declared.script.TheConstants.{MAX_LINES, MAX_BYTES}
-use Rattle.xr_cmd.proofs.Lines.{split, read_none, read_passed, read_step, read_bad, read_all}
+use Rattle.xr_cmd.proofs.LineLemmas.{split, read_none, read_passed, read_step, read_bad, read_all}
 use Rattle.xr_cmd.proofs.script.parse_steps.Goals as goal
 use Rattle.xr_cmd.proofs.script.parse_steps.Goals.{then-number-gt-MAX_LINES-via-then-number-gt-MAX_LINES, then-number-gt-MAX_LINES-via-else-number-gt-MAX_LINES+then-bytes-after-gt-MAX_BYTES}
 

@@ -1,6 +1,6 @@
 use Rattle.std.proofs.Common.{length}
 use Rattle.xr_cmd.specs.declared.script.TheConstants.{MAX_LINES, MAX_BYTES}
-use Rattle.xr_cmd.proofs.Lines.{IsReadTo}
+use Rattle.xr_cmd.proofs.LineLemmas.{IsReadTo}
 use Rattle.xr_cmd.proofs.script.parse_steps.Given as goal
 
 abbrev pub invariant-loop-rest : goal.invariant-loop-rest

@@ -1,7 +1,7 @@
 use Rattle.std.proofs.Common.{Some, subst}
 use Rattle.std.proofs.lemmas.Bool.{false≢true}
 use Rattle.xr_maps.specs.Steps.{Fits}
-use Rattle.xr_cmd.proofs.StepLines.{LineGives-IsUtf8, LineGives-split, IsStepAfter-same}
+use Rattle.xr_cmd.proofs.StepLineLemmas.{LineGives-IsUtf8, LineGives-split, IsStepAfter-same}
 use Rattle.xr_cmd.proofs.script.step_of.Goals as goal
 
 pub returns-in_default : goal.returns-in_default

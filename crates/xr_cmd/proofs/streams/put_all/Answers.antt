@@ -1,6 +1,6 @@
 use Rattle.std.proofs.Common.{arith}
 use Rattle.std.proofs.lemmas.Grind.{common_steps}
-use Rattle.xr_cmd.proofs.Putting.{puts_more}
+use Rattle.xr_cmd.proofs.PutLemmas.{puts_more}
 use Rattle.xr_cmd.proofs.streams.put_all.Goals as goal
 
 pub loop-done-preserved : goal.loop-done-preserved

@@ -1,5 +1,5 @@
 use Rattle.std.proofs.Common.{◌-◌, length}
-use Rattle.xr_cmd.proofs.Putting.{HasPut}
+use Rattle.xr_cmd.proofs.PutLemmas.{HasPut}
 use Rattle.xr_cmd.proofs.streams.put_all.Given as goal
 
 abbrev pub invariant-loop-done : goal.invariant-loop-done

@@ -1,6 +1,6 @@
 use Rattle.std.proofs.Common.{take, arith}
 use Rattle.std.proofs.lemmas.Grind.{common_steps}
-use Rattle.xr_cmd.proofs.Reading.{stays_within_more}
+use Rattle.xr_cmd.proofs.ReadLemmas.{stays_within_more}
 use Rattle.xr_cmd.proofs.streams.read_front.Goals as goal
 
 pub returns-in_err-extend_from_slice-clause-limit : goal.returns-in_err-extend_from_slice-clause-limit

@@ -1,5 +1,5 @@
 use Rattle.std.proofs.Common.{◌-◌, vec_len}
-use Rattle.xr_cmd.proofs.Reading.{HasRead}
+use Rattle.xr_cmd.proofs.ReadLemmas.{HasRead}
 use Rattle.xr_cmd.proofs.streams.read_front.Given as goal
 
 abbrev pub invariant-loop-buffer : goal.invariant-loop-buffer

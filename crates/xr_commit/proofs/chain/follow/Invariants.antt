@@ -1,5 +1,5 @@
 use Rattle.xr_record.specs.Lsn.{lsn_number}
-use Rattle.xr_commit.proofs.Back.{IsFollowing}
+use Rattle.xr_commit.proofs.ChainLemmas.{IsFollowing}
 use Rattle.xr_commit.proofs.chain.follow.Given as goal
 
 abbrev pub invariant-loop-last : goal.invariant-loop-last

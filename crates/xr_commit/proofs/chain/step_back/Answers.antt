@@ -1,6 +1,6 @@
 use Rattle.std.proofs.Common.{inl, inr, ap, arith}
 use Rattle.xr_commit.specs.declared.fault.ScanFault.TheVariants.{Place}
-use Rattle.xr_commit.proofs.Back.{told_not, told_not_apart}
+use Rattle.xr_commit.proofs.ChainLemmas.{told_not, told_not_apart}
 use Rattle.xr_commit.proofs.chain.step_back.Goals as goal
 use Rattle.xr_commit.proofs.chain.step_back.Goals.{then-ne-via-then-ne, then-ne-via-else-ne+then-lsn-number, then-ne-via-else-ne+else-lsn-number+then-lsn-number-2}
 
@@ -16,7 +16,7 @@ returns-then-ne-clause-nowhere c =
           | then-ne-via-else-ne+else-lsn-number+then-lsn-number-2 w ↦ inr (inr (let a = w.number-else-lsn-number.ensures in let b = c.number-lsn.ensures in let d = w.if-lsn-number-2.true in omega arith))
         ];
       },
-      ap Place c.block_at-then-ne.ensures,
+      ap Place c.log_block_of-then-ne.ensures,
     ))
 
 pub returns-clause-before : goal.returns-clause-before

@@ -1,6 +1,6 @@
 use Rattle.std.proofs.Common.{◌≡◌, ℕ, subst, arith}
 use Rattle.xr_base.specs.declared.geometry.TheConstants.{LOG_SECTORS}
-use Rattle.xr_commit.proofs.Newest.{IsBest, best_begins, best_ends, best_on}
+use Rattle.xr_commit.proofs.HeadLemmas.{IsBest, best_begins, best_ends, best_on}
 use Rattle.xr_commit.proofs.head.find_head.Goals as goal
 
 pub loop-sector-init : goal.loop-sector-init

@@ -1,4 +1,4 @@
-use Rattle.xr_commit.proofs.Newest.{IsBest}
+use Rattle.xr_commit.proofs.HeadLemmas.{IsBest}
 use Rattle.xr_commit.proofs.head.find_head.Given as goal
 
 abbrev pub invariant-loop-sector : goal.invariant-loop-sector

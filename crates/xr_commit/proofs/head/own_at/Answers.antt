@@ -1,6 +1,6 @@
 use Rattle.std.proofs.Common.{◌≡◌, ap, ◌∙◌}
 use Rattle.xr_record.specs.declared.head.Head.{Head}
-use Rattle.xr_commit.proofs.Back.{told_apart}
+use Rattle.xr_commit.proofs.ChainLemmas.{told_apart}
 use Rattle.xr_commit.proofs.head.own_at.Goals as goal
 use Rattle.xr_commit.proofs.head.own_at.Goals.{in_default-via-in-Ok+else-eq, in_default-via-in_default}
 

@@ -1,6 +1,6 @@
 use Rattle.std.proofs.Common.{arith}
-use Rattle.xr_commit.proofs.RegionHomes.{counting_begins, counting_ends, counting_on}
-use Rattle.xr_commit.proofs.HeaderWalk.{tail_is}
+use Rattle.xr_commit.proofs.RegionHomeLemmas.{counting_begins, counting_ends, counting_on}
+use Rattle.xr_commit.proofs.HeaderWalkLemmas.{tail_is}
 use Rattle.xr_commit.proofs.homes.begun_in.Goals as goal
 
 pub loop-at-init : goal.loop-at-init

@@ -1,5 +1,5 @@
 use Rattle.std.proofs.Common.{◌-◌, length}
-use Rattle.xr_commit.proofs.RegionHomes.{IsCounting}
+use Rattle.xr_commit.proofs.RegionHomeLemmas.{IsCounting}
 use Rattle.xr_commit.proofs.homes.begun_in.Given as goal
 
 abbrev pub invariant-loop-at : goal.invariant-loop-at

@@ -1,7 +1,7 @@
 use Rattle.std.proofs.Common.{refl}
-use Rattle.xr_commit.proofs.Bodies.{body_fits}
-use Rattle.xr_commit.proofs.Records.{nth, one_of}
-use Rattle.xr_commit.proofs.RegionHomes.{seek_ends, seek_found, seek_on}
+use Rattle.xr_commit.proofs.BodyLemmas.{body_fits}
+use Rattle.xr_commit.proofs.RecordLemmas.{nth, one_of}
+use Rattle.xr_commit.proofs.RegionHomeLemmas.{seek_ends, seek_found, seek_on}
 use Rattle.xr_commit.proofs.homes.block_of_region.Goals as goal
 
 pub loop-head-init : goal.loop-head-init
@@ -19,7 +19,7 @@ begun_in-begun-requires c =
     body_fits c.args.log.now c.head-item.result _ c.body_at.result.now it (c.body_at.ensures _ it)
 
 pub returns-then-left-begun : goal.returns-then-left-begun
-returns-then-left-begun c = rw c.block_at.ensures (seek_found _ _ _ _ _ _ _ _ _ c.loop-head.invariant c.loop-head-test.true c.head-item.is c.body_at.ensures c.begun_in-begun.ensures.regions c.if-left-begun.true)
+returns-then-left-begun c = rw c.log_block_of.ensures (seek_found _ _ _ _ _ _ _ _ _ c.loop-head.invariant c.loop-head-test.true c.head-item.is c.body_at.ensures c.begun_in-begun.ensures.regions c.if-left-begun.true)
 
 pub loop-head-preserved : goal.loop-head-preserved
 loop-head-preserved c = seek_on _ _ _ _ _ _ _ _ _ _ c.loop-head.invariant c.loop-head-test.true c.head-item.is c.body_at.ensures c.begun_in-begun.ensures.regions c.begun_in-begun.ensures.started c.if-left-begun.false

@@ -1,4 +1,4 @@
-use Rattle.xr_commit.proofs.RegionHomes.{IsSeeking}
+use Rattle.xr_commit.proofs.RegionHomeLemmas.{IsSeeking}
 use Rattle.xr_commit.proofs.homes.block_of_region.Given as goal
 
 abbrev pub invariant-loop-head : goal.invariant-loop-head

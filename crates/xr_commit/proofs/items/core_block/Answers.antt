@@ -1,4 +1,4 @@
-use Rattle.xr_commit.proofs.Cores.{core_laid}
+use Rattle.xr_commit.proofs.CoreLemmas.{core_laid}
 use Rattle.xr_commit.proofs.items.core_block.Goals as goal
 
 pub returns : goal.returns

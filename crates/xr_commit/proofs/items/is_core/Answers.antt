@@ -1,5 +1,5 @@
 use Rattle.std.proofs.Common.{◌-◌, arith}
-use Rattle.xr_commit.proofs.Cores.{core_tells}
+use Rattle.xr_commit.proofs.CoreLemmas.{core_tells}
 use Rattle.xr_commit.proofs.items.is_core.Goals as goal
 
 pub returns : goal.returns

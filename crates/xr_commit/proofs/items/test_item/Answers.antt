@@ -1,5 +1,5 @@
 use Rattle.std.proofs.Common.{◌∙◌, sym, arith}
-use Rattle.xr_commit.proofs.NextItem.{bad_follower, bad_here, follower_within, good_alone, good_followed, some_follow}
+use Rattle.xr_commit.proofs.NextItemLemmas.{bad_follower, bad_here, follower_within, good_alone, good_followed, some_follow}
 use Rattle.xr_commit.proofs.items.test_item.Goals as goal
 
 pub returns-in-Err-clause-bad : goal.returns-in-Err-clause-bad

@@ -1,6 +1,6 @@
 use Rattle.std.proofs.Common.{ℕ, ◌∙◌, false, ap, sym}
 use Rattle.xr_commit.specs.LiveItems.{home_of_region}
-use Rattle.xr_commit.proofs.EntryLoop.{bad_begins, items_break, loop_begins, loop_ends, loop_on, parted_at}
+use Rattle.xr_commit.proofs.EntryLoopLemmas.{bad_begins, items_break, loop_begins, loop_ends, loop_on, parted_at}
 use Rattle.xr_commit.proofs.items.test_items.Goals as goal
 
 pub loop-entry-init : goal.loop-entry-init

@@ -1,4 +1,4 @@
-use Rattle.xr_commit.proofs.EntryLoop.{IsItemLoop}
+use Rattle.xr_commit.proofs.EntryLoopLemmas.{IsItemLoop}
 use Rattle.xr_commit.proofs.items.test_items.Given as goal
 
 abbrev pub invariant-loop-entry : goal.invariant-loop-entry

@@ -1,6 +1,6 @@
 use Rattle.std.proofs.Common.{arith}
 use Rattle.std.proofs.lemmas.Result.{err_from_is_err_and}
-use Rattle.xr_commit.proofs.ItemLoop.{takes_some, testing_begins, testing_breaks, testing_ends, testing_on}
+use Rattle.xr_commit.proofs.ItemLoopLemmas.{takes_some, testing_begins, testing_breaks, testing_ends, testing_on}
 use Rattle.xr_commit.proofs.items.test_regions.Goals as goal
 
 pub loop-at-init : goal.loop-at-init

@@ -1,5 +1,5 @@
 use Rattle.std.proofs.Common.{◌-◌, length}
-use Rattle.xr_commit.proofs.ItemLoop.{IsTesting}
+use Rattle.xr_commit.proofs.ItemLoopLemmas.{IsTesting}
 use Rattle.xr_commit.proofs.items.test_regions.Given as goal
 
 abbrev pub invariant-loop-at : goal.invariant-loop-at

@@ -1,4 +1,4 @@
-use Rattle.xr_commit.proofs.OneLive.{one_live}
+use Rattle.xr_commit.proofs.OneLiveLemmas.{one_live}
 use Rattle.xr_commit.proofs.laws.images_have_one_live_stream.Goals as goal
 
 pub returns : goal.returns

@@ -8,9 +8,9 @@ use Rattle.xr_commit.specs.LiveItems.{HaveGood}
 use Rattle.xr_commit.specs.Following.{HasNoChain}
 use Rattle.xr_commit.specs.LogRecords.{AreIn, LogRecord}
 use Rattle.xr_commit.specs.Refusals.{BreaksOperations, RefusesLog}
-use Rattle.xr_commit.proofs.Back.{or_no_memory, no_memory_too}
-use Rattle.xr_commit.proofs.Layers.{bodies_refused, chain_refused, is_live, no_room, top}
-use Rattle.xr_commit.proofs.Whole.{all_within, chain_in, newest_within}
+use Rattle.xr_commit.proofs.ChainLemmas.{or_no_memory, no_memory_too}
+use Rattle.xr_commit.proofs.LayerLemmas.{bodies_refused, chain_refused, is_live, no_room, top}
+use Rattle.xr_commit.proofs.WholeRecordLemmas.{all_within, chain_in, newest_within}
 use Rattle.xr_commit.proofs.live_stream.live_in.Goals as goal
 
 pub returns-in_err-heads-clause-refused : goal.returns-in_err-heads-clause-refused
@@ -30,7 +30,7 @@ has_room-requires-clause-heads c =
 pub returns-then-not-has_room-clause-refused : goal.returns-then-not-has_room-clause-refused
 returns-then-not-has_room-clause-refused c =
     let chain = c.in_ok-heads.ensures.chain (top _ _ _ c.in-Some.ensures) refl in
-    rw c.block_at.ensures (no_room c.args.uuid c.args.log.now c.in-Some.head _ _ c.in-Some.ensures chain c.deref.ensures.value
+    rw c.log_block_of.ensures (no_room c.args.uuid c.args.log.now c.in-Some.head _ _ c.in-Some.ensures chain c.deref.ensures.value
     (λ room. false≢true (sym c.if-not-has_room.true ∙ c.has_room.ensures.1 room)))
 
 pub test_unmounts-requires-clause-records : goal.test_unmounts-requires-clause-records

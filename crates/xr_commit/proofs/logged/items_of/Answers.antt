@@ -1,5 +1,5 @@
 use Rattle.std.proofs.Common.{◌∙◌, arith}
-use Rattle.xr_commit.proofs.Parted.{all_taken, next}
+use Rattle.xr_commit.proofs.TakenItemLemmas.{all_taken, next}
 use Rattle.xr_commit.proofs.logged.items_of.Goals as goal
 
 pub item_at-item-requires : goal.item_at-item-requires

@@ -1,7 +1,7 @@
 use Rattle.std.proofs.Common.{List, length, ◌-◌}
 use Rattle.xr_items.specs.declared.item.Item.{Item}
 use Rattle.xr_commit.specs.LoggedItems.{AreItemsOf}
-use Rattle.xr_commit.proofs.Parted.{IsParted}
+use Rattle.xr_commit.proofs.TakenItemLemmas.{IsParted}
 use Rattle.xr_commit.proofs.logged.items_of.Given as goal
 
 abbrev pub invariant-loop-at : goal.invariant-loop-at

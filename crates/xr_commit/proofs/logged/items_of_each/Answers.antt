@@ -1,7 +1,7 @@
 use Rattle.std.proofs.Common.{◌∙◌, [], get_or, sym, arith}
 use Rattle.std.proofs.lemmas.List.{length-map, take_all}
 use Rattle.xr_commit.specs.ItemsOf.{items_in}
-use Rattle.xr_commit.proofs.EachEntry.{as_many, each_at, pushed}
+use Rattle.xr_commit.proofs.EntryItemLemmas.{as_many, each_at, pushed}
 use Rattle.xr_commit.proofs.logged.items_of_each.Goals as goal
 
 pub entry_items-requires : goal.entry_items-requires

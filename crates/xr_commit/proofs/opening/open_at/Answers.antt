@@ -1,16 +1,16 @@
 use Rattle.std.proofs.Common.{◌≡◌, ℕ, List, refl, sym, subst, ◌∙◌}
 use Rattle.xr_record.specs.Record.{IsSealed}
-use Rattle.xr_record.proofs.Sealed.{sealed_magic}
-use Rattle.xr_commit.proofs.Copies.{copied_is, sector_copied, opened_stands, refused_there, magic_at}
+use Rattle.xr_record.specs.SealedRecordLaws.{sealed_magic}
+use Rattle.xr_commit.proofs.CopyLemmas.{copied_is, sector_copied, opened_stands, refused_there, magic_at}
 use Rattle.xr_commit.specs.LogRecords.{bytes_at}
 use Rattle.xr_commit.proofs.opening.open_at.Goals as goal
 
-pub returns-then-word_at-clause-every : goal.returns-then-word_at-clause-every
-returns-then-word_at-clause-every c r stands =
-    absurd (c.if-word_at.true (c.word_at.ensures ∙ magic_at c.args.log.now c.args.sector (sealed_magic _ r.head r.body stands.sealed)))
+pub returns-then-be32_at-clause-every : goal.returns-then-be32_at-clause-every
+returns-then-be32_at-clause-every c r stands =
+    absurd (c.if-be32_at.true (c.be32_at.ensures ∙ magic_at c.args.log.now c.args.sector (sealed_magic _ r.head r.body stands.sealed)))
 
-pub returns-then-word_at-clause-refused : goal.returns-then-word_at-clause-refused
-returns-then-word_at-clause-refused c = (refl, λ magic. c.if-word_at.true (c.word_at.ensures ∙ magic_at c.args.log.now c.args.sector magic))
+pub returns-then-be32_at-clause-refused : goal.returns-then-be32_at-clause-refused
+returns-then-be32_at-clause-refused c = (refl, λ magic. c.if-be32_at.true (c.be32_at.ensures ∙ magic_at c.args.log.now c.args.sector magic))
 
 copied : (c : goal.After-slice_known-3-1) → c.copy_from_slice.new.self ≡ bytes_at c.args.log.now c.args.sector
 copied c = copied_is c.args.log.now c.copy_from_slice.new.self c.args.sector c.min-n.result c.requires.log c.requires.sector c.min-n.ensures c.copy_from_slice.ensures.after

@@ -1,6 +1,6 @@
 use Rattle.std.proofs.Common.{◌∙◌}
-use Rattle.xr_commit.proofs.HeaderWalk.{tail_is}
-use Rattle.xr_commit.proofs.Summing.{sums_begin, sums_end, sums_on, or_true, or_false}
+use Rattle.xr_commit.proofs.HeaderWalkLemmas.{tail_is}
+use Rattle.xr_commit.proofs.OperationSumLemmas.{sums_begin, sums_end, sums_on, or_true, or_false}
 use Rattle.xr_commit.proofs.operations.sum_up.Goals as goal
 
 pub loop-bytes-init : goal.loop-bytes-init

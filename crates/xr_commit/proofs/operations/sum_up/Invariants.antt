@@ -1,5 +1,5 @@
 use Rattle.std.proofs.Common.{◌-◌, length}
-use Rattle.xr_commit.proofs.Summing.{IsSumming}
+use Rattle.xr_commit.proofs.OperationSumLemmas.{IsSumming}
 use Rattle.xr_commit.proofs.operations.sum_up.Given as goal
 
 abbrev pub invariant-loop-bytes : goal.invariant-loop-bytes

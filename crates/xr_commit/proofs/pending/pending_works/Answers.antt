@@ -2,7 +2,7 @@ use Rattle.std.proofs.Common.{[], ◌∙◌}
 use Rattle.std.specs.Global.{Vec}
 use Rattle.xr_items.specs.declared.item.Item.{Item}
 use Rattle.xr_commit.specs.Pending.{joined_items}
-use Rattle.xr_commit.proofs.Walks.{walk_ends, walked_all}
+use Rattle.xr_commit.proofs.PendingWalkLemmas.{walk_ends, walked_all}
 use Rattle.xr_commit.proofs.pending.pending_works.Goals as goal
 
 pub returns : goal.returns

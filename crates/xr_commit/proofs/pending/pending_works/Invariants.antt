@@ -1,6 +1,6 @@
 use Rattle.std.specs.Global.{Vec}
 use Rattle.xr_items.specs.declared.item.Item.{Item}
-use Rattle.xr_commit.proofs.Walks.{HasWalked}
+use Rattle.xr_commit.proofs.PendingWalkLemmas.{HasWalked}
 use Rattle.xr_commit.proofs.pending.pending_works.Given as goal
 
 abbrev pub invariant-loop-left : goal.invariant-loop-left

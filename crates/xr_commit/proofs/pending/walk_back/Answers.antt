@@ -1,7 +1,7 @@
 use Rattle.std.proofs.Common.{[], ◌∷◌, subst}
 use Rattle.xr_items.specs.declared.item.Item.{Item}
 use Rattle.xr_commit.specs.Done.{WalksOver}
-use Rattle.xr_commit.proofs.Walks.{alone, walked_all}
+use Rattle.xr_commit.proofs.PendingWalkLemmas.{alone, walked_all}
 use Rattle.xr_commit.proofs.pending.walk_back.Goals as goal
 
 pub returns : goal.returns

@@ -1,5 +1,5 @@
 use Rattle.std.proofs.Common.{[], ◌∷◌}
-use Rattle.xr_commit.proofs.Walks.{HasWalked}
+use Rattle.xr_commit.proofs.PendingWalkLemmas.{HasWalked}
 use Rattle.xr_commit.proofs.pending.walk_back.Given as goal
 
 abbrev pub invariant-loop-left : goal.invariant-loop-left

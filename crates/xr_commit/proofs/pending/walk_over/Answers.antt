@@ -1,4 +1,4 @@
-use Rattle.xr_commit.proofs.Walks.{one_more, passed_over}
+use Rattle.xr_commit.proofs.PendingWalkLemmas.{one_more, passed_over}
 use Rattle.xr_commit.proofs.pending.walk_over.Goals as goal
 
 pub returns-in_ok-push-in-Begin : goal.returns-in_ok-push-in-Begin

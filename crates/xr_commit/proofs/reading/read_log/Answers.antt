@@ -1,5 +1,5 @@
 use Rattle.std.proofs.Common.{◌∙◌}
-use Rattle.xr_commit.proofs.Logs.{log_taken}
+use Rattle.xr_commit.proofs.LogLemmas.{log_taken}
 use Rattle.xr_commit.proofs.reading.read_log.Goals as goal
 
 pub returns-clause-log : goal.returns-clause-log

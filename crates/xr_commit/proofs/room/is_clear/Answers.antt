@@ -1,10 +1,10 @@
 use Rattle.std.proofs.Common.{arith}
 use Rattle.std.proofs.lemmas.Bool.{leb-true}
-use Rattle.xr_commit.proofs.Clear.{begins_within}
+use Rattle.xr_commit.proofs.ReserveLemmas.{begins_within}
 use Rattle.xr_commit.proofs.room.is_clear.Goals as goal
 
 pub returns-else-first-room-ge-RELOG_SECTORS : goal.returns-else-first-room-ge-RELOG_SECTORS
 returns-else-first-room-ge-RELOG_SECTORS c = (
   (λ t i below covers. let h = leb-true 90 _ t in let f = c.if-first-room-ge-RELOG_SECTORS.false in omega arith),
-  λ clear. absurd (begins_within c.args.newest.now c.args.head.now c.end_of-room.result c.end_of-room.ensures c.requires.newest c.requires.head c.if-first-room-ge-RELOG_SECTORS.false clear),
+  λ clear. absurd (begins_within c.args.newest.now c.args.head.now c.record_end-room.result c.record_end-room.ensures c.requires.newest c.requires.head c.if-first-room-ge-RELOG_SECTORS.false clear),
 )

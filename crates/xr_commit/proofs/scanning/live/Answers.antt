@@ -1,6 +1,6 @@
 use Rattle.std.proofs.lemmas.Result.{err_from_is_err_and}
-use Rattle.xr_commit.proofs.GoodItems.{live_items}
-use Rattle.xr_commit.proofs.Images.{was_live, was_read, was_refused, was_uncounted}
+use Rattle.xr_commit.proofs.GoodItemLemmas.{live_items}
+use Rattle.xr_commit.proofs.ImageLemmas.{was_live, was_read, was_refused, was_uncounted}
 use Rattle.xr_commit.proofs.scanning.live.Goals as goal
 
 pub returns-in_err-uuid-clause-refused : goal.returns-in_err-uuid-clause-refused

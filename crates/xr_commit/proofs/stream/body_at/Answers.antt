@@ -1,7 +1,7 @@
 use Rattle.std.proofs.Common.{◌≡◌, sym, ap, ◌∙◌}
 use Rattle.xr_base.specs.Image.{part}
 use Rattle.xr_record.specs.declared.head.Head.{Head}
-use Rattle.xr_commit.proofs.Bodies.{body_taken, one_in}
+use Rattle.xr_commit.proofs.BodyLemmas.{body_taken, one_in}
 use Rattle.xr_commit.proofs.stream.body_at.Goals as goal
 
 pub unreachable-requires : goal.unreachable-requires

@@ -2,10 +2,10 @@ use Rattle.std.proofs.Common.{List, subst, arith}
 use Rattle.std.proofs.lemmas.List.{take_all}
 use Rattle.std.proofs.lemmas.Result.{err_from_is_err_and}
 use Rattle.xr_commit.specs.LogRecords.{LogRecord}
-use Rattle.xr_commit.specs.Walking.{HasRead}
-use Rattle.xr_commit.proofs.Bodies.{body_fits}
-use Rattle.xr_commit.proofs.Feeding.{breaks_or_wants, entries_of, read_more}
-use Rattle.xr_commit.proofs.Records.{as_many, nth, one_of}
+use Rattle.xr_commit.specs.Walking.{HaveBeenRead}
+use Rattle.xr_commit.proofs.BodyLemmas.{body_fits}
+use Rattle.xr_commit.proofs.FeedLemmas.{breaks_or_wants, entries_of, read_more}
+use Rattle.xr_commit.proofs.RecordLemmas.{as_many, nth, one_of}
 use Rattle.xr_commit.proofs.stream.read_entries.Goals as goal
 
 pub body_at-body-requires-clause-stands : goal.body_at-body-requires-clause-stands
@@ -30,5 +30,5 @@ loop-head-preserved c records are =
 
 pub returns-clause-entries : goal.returns-clause-entries
 returns-clause-entries c records are =
-    entries_of records _ c.loop-head.reader (subst (λ (rs : List LogRecord). HasRead rs c.loop-head.entries.items c.loop-head.reader)
+    entries_of records _ c.loop-head.reader (subst (λ (rs : List LogRecord). HaveBeenRead rs c.loop-head.entries.items c.loop-head.reader)
     (take_all c.loop-head.head-index records (let e = as_many _ _ _ are in let f = c.loop-head-test.false in omega arith)) (c.loop-head.invariant records are))

@@ -1,9 +1,9 @@
 use Rattle.std.proofs.Common.{sym, ap, ◌∙◌}
 use Rattle.std.proofs.lemmas.Bool.{eqb-true}
 use Rattle.xr_commit.specs.declared.fault.ScanFault.TheVariants.{Place}
-use Rattle.xr_commit.proofs.Back.{lsn_differs, lsn_same, not_false}
-use Rattle.xr_commit.proofs.Bodies.{body_fits}
-use Rattle.xr_commit.proofs.Unmounts.{holds_none, in_company, other_tail, stands_alone}
+use Rattle.xr_commit.proofs.ChainLemmas.{lsn_differs, lsn_same, not_false}
+use Rattle.xr_commit.proofs.BodyLemmas.{body_fits}
+use Rattle.xr_commit.proofs.UnmountLemmas.{holds_none, in_company, other_tail, stands_alone}
 use Rattle.xr_commit.proofs.stream.test_unmount.Goals as goal
 use Rattle.xr_commit.proofs.stream.test_unmount.Goals.{else-summary-via-then-summary+else-ne, then-summary-ne1, else-summary-ne1, else-summary-via-else-summary}
 
@@ -20,7 +20,7 @@ returns-then-ne c r is =
         | then-summary-ne1 w ↦ in_company _ _ _ r _ _ is same sum.unmounts c.if-summary.true sum.operations w.if-summary-ne1.true
         | else-summary-ne1 w ↦ other_tail _ _ _ r _ is same sum.unmounts c.if-summary.true (lsn_differs _ _ _ w.ne.ensures (sym w.value-is ∙ c.if-ne.true))
       ],
-      ap Place c.block_at.ensures,
+      ap Place c.log_block_of.ensures,
     )
 
 pub returns : goal.returns

@@ -2,7 +2,7 @@ use Rattle.std.proofs.Common.{ℕ, ◌<◌, All, subst, arith}
 use Rattle.std.proofs.lemmas.List.{take_all}
 use Rattle.std.proofs.lemmas.Result.{err_from_is_err_and}
 use Rattle.xr_commit.specs.Operations.{KeepsUnmounts}
-use Rattle.xr_commit.proofs.Records.{as_many, breaks_at, nth, one_more, one_of}
+use Rattle.xr_commit.proofs.RecordLemmas.{as_many, breaks_at, nth, one_more, one_of}
 use Rattle.xr_commit.proofs.stream.test_unmounts.Goals as goal
 
 pub test_unmount-requires-clause-stands : goal.test_unmount-requires-clause-stands

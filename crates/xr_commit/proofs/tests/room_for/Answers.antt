@@ -1,11 +1,11 @@
 use Rattle.std.proofs.Common.{◌≡◌, ℕ, ◌+◌, ◌-◌, ◌*◌, ◌<◌, ◌≤◌, ◌∙◌, List, ◌++◌, length, drop, replicate, refl, ap, arith}
 use Rattle.std.proofs.lemmas.List.{drop-replicate}
-use Rattle.xr_record.specs.Record.{padded, sectors_of, zeros}
+use Rattle.xr_record.specs.Record.{sectors_of, zeros, padded_body}
 use Rattle.xr_commit.proofs.tests.room_for.Goals as goal
 
 -- zeros stand behind a body that was copied over zeros
 zeros_behind : (body copied rest : List ℕ) → 0 < length body → length body ≤ 512 → copied ≡ body → rest ≡ drop (512 + length body - 512) (drop 512 (replicate 1024 0))
-    → copied ++ rest ≡ padded body
+    → copied ++ rest ≡ padded_body body
 unfolding zeros
 zeros_behind body copied rest some most same is =
     let left : 1024 - 512 - (512 + length body - 512) ≡ 512 * sectors_of (length body) - length body = omega arith in

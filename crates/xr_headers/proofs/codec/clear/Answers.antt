@@ -1,5 +1,5 @@
 use Rattle.std.proofs.Common.{ℕ, ◌<◌, length, arith}
-use Rattle.xr_headers.proofs.Padding.{zeros_are}
+use Rattle.xr_headers.specs.PaddingLaws.{zeros_are}
 use Rattle.xr_headers.proofs.codec.clear.Goals as goal
 
 pub returns : goal.returns

@@ -1,6 +1,6 @@
 use Rattle.std.proofs.Common.{◌≡◌, ◌+◌, ◌-◌, length, refl, arith}
-use Rattle.xr_headers.proofs.Naming.{difference_finds, earlier_finds, named_from}
-use Rattle.xr_headers.proofs.Sealing.{right_from_tests, tests_from_right}
+use Rattle.xr_headers.proofs.FirstWrongLemmas.{difference_finds, earlier_finds, named_from}
+use Rattle.xr_headers.specs.ChecksumLaws.{right_from_tests, tests_from_right}
 use Rattle.xr_headers.proofs.codec.first_wrong.Goals as goal
 
 pub returns-clause-right : goal.returns-clause-right

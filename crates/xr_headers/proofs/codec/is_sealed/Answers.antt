@@ -2,7 +2,7 @@ use Rattle.std.proofs.Common.{◌≡◌, ℕ, ◌+◌, ◌-◌, ◌∙◌, take,
 use Rattle.std.proofs.lemmas.Bool.Decides.{Decides-eqb}
 use Rattle.std.proofs.lemmas.Slice.Eq.{slice_eq-Decides}
 use Rattle.xr_base.specs.Image.{part}
-use Rattle.xr_headers.proofs.Sealing.{sealed_from_sum, sum_from_sealed}
+use Rattle.xr_headers.specs.ChecksumLaws.{sealed_from_sum, sum_from_sealed}
 use Rattle.xr_headers.proofs.codec.is_sealed.Goals as goal
 
 pub returns : goal.returns

@@ -1,7 +1,7 @@
 use Rattle.std.proofs.Common.{◌≡◌, ℕ, ◌+◌, ◌-◌, ◌*◌, ◌^◌, ◌<◌, ◌∙◌, length, take, drop, ap, arith}
 use Rattle.std.proofs.lemmas.List.Elements.{All-from_get_or}
-use Rattle.xr_headers.specs.Sealed.{numbers_in}
-use Rattle.xr_headers.proofs.Reading.{numbers_read, words_read}
+use Rattle.xr_headers.specs.Padded.{numbers_in}
+use Rattle.xr_headers.specs.ReadBackLaws.{numbers_read, words_read}
 use Rattle.xr_headers.proofs.codec.read_words.Goals as goal
 
 pub returns-clause-again : goal.returns-clause-again

@@ -1,7 +1,7 @@
 use Rattle.std.proofs.Common.{[], ◌∷◌, length, refl, arith}
 use Rattle.byteorder.specs.Endian.{big_bytes}
-use Rattle.xr_headers.specs.Sealed.{words}
-use Rattle.xr_headers.proofs.Laying.{laid_none, laid_next}
+use Rattle.xr_headers.specs.Padded.{words}
+use Rattle.xr_headers.proofs.FieldLemmas.{laid_none, laid_next}
 use Rattle.xr_headers.specs.Headers.{core_fields, core_numbers}
 use Rattle.xr_headers.specs.declared.layout.TheConstants.{CORE_MAGIC, VERSION}
 use Rattle.xr_headers.proofs.file_core.lay_core.Goals as goal

@@ -3,11 +3,12 @@ use Rattle.std.proofs.lemmas.List.{append-nil, length-append}
 use Rattle.std.proofs.lemmas.List.Elements.{All-cons, All-nil}
 use Rattle.byteorder.specs.Endian.{big_bytes}
 use Rattle.xr_base.specs.Image.{part}
-use Rattle.xr_headers.specs.declared.layout.TheConstants.{CORE_BYTES, CORE_MAGIC, CORE_SEAL, UUID_BYTES, VERSION}
+use Rattle.xr_headers.specs.declared.layout.TheConstants.{CORE_BYTES, CORE_MAGIC, CORE_SEAL, VERSION}
+use Rattle.xr_base.specs.declared.geometry.TheConstants.{UUID_BYTES}
 use Rattle.xr_headers.specs.declared.file_core.Core.{Core}
 use Rattle.xr_headers.specs.Headers.{core_bytes, core_fields, core_numbers, AreWords, IsCore}
-use Rattle.xr_headers.specs.Sealed.{words}
-use Rattle.xr_headers.proofs.Reading.{read_back}
+use Rattle.xr_headers.specs.Padded.{words}
+use Rattle.xr_headers.specs.ReadBackLaws.{read_back}
 use Rattle.xr_headers.proofs.file_core.read_core.Goals as goal
 
 make : ℕ → List ℕ → ℕ → ℕ → ℕ → Core

@@ -5,8 +5,8 @@ use Rattle.xr_headers.specs.declared.layout.TheConstants.{CORE_BYTES}
 use Rattle.xr_headers.specs.declared.file_core.Core.{Core}
 use Rattle.xr_headers.specs.Headers.{core_block, core_bytes}
 use Rattle.xr_headers.specs.HeaderLaws.{length-core_bytes}
-use Rattle.xr_headers.proofs.Naming.{first_behind}
-use Rattle.xr_headers.proofs.Padding.{front_from_padded, padded_from_parts, zeros_from_padded}
+use Rattle.xr_headers.proofs.FirstWrongLemmas.{first_behind}
+use Rattle.xr_headers.specs.PaddingLaws.{front_from_padded, padded_from_parts, zeros_from_padded}
 use Rattle.xr_headers.proofs.file_core.take_core.Goals as goal
 
 front : (v : Core) (bytes : List ℕ) → bytes ≡ core_block v → take CORE_BYTES bytes ≡ core_bytes v

@@ -2,14 +2,14 @@ use Rattle.std.proofs.Common.{◌≡◌, ◌-◌, ◌∙◌, List, ℕ, length, 
 use Rattle.xr_headers.specs.declared.layout.TheConstants.{CORE_SEAL, CORE_BYTES, CORE_FIELDS}
 use Rattle.xr_headers.specs.declared.file_core.Core.{Core}
 use Rattle.xr_headers.specs.Headers.{core_bytes, core_fields, KeepsFilePool}
-use Rattle.xr_headers.specs.Sealed.{padded, sealed, IsLaid}
+use Rattle.xr_headers.specs.Padded.{IsLaid, with_crc, zero_padded}
 use Rattle.xr_headers.specs.FirstWrong.{IsCoreOutOfRange, NamesCoreField}
-use Rattle.xr_headers.proofs.Naming.{Finds, field_named}
-use Rattle.xr_headers.proofs.Sealing.{wanted_is}
+use Rattle.xr_headers.proofs.FirstWrongLemmas.{Finds, field_named}
+use Rattle.xr_headers.specs.ChecksumLaws.{wanted_is}
 use Rattle.xr_headers.proofs.file_core.take_core_bytes.Goals as goal
 
 block : (bytes : List ℕ) (v : Core) (wanted : List ℕ) → length bytes ≡ CORE_BYTES → IsLaid CORE_FIELDS CORE_FIELDS (core_fields v) wanted
-    → sealed (length bytes - 4) (padded (length bytes) wanted) ≡ core_bytes v
+    → with_crc (length bytes - 4) (zero_padded (length bytes) wanted) ≡ core_bytes v
 block bytes v wanted long laid = wanted_is CORE_BYTES CORE_SEAL CORE_FIELDS bytes (core_fields v) wanted long (omega arith) (omega arith) laid
 
 pub returns-in-None-clause-ok : goal.returns-in-None-clause-ok

@@ -1,7 +1,7 @@
 use Rattle.std.proofs.Common.{◌∙◌, length, refl, arith}
-use Rattle.xr_headers.specs.Sealed.{words}
-use Rattle.xr_headers.specs.SealedLaws.{length-words}
-use Rattle.xr_headers.proofs.Laying.{laid_none, laid_next}
+use Rattle.xr_headers.specs.Padded.{words}
+use Rattle.xr_headers.specs.PaddedLaws.{length-words}
+use Rattle.xr_headers.proofs.FieldLemmas.{laid_none, laid_next}
 use Rattle.xr_headers.specs.Headers.{group_fields, group_opening}
 use Rattle.xr_headers.proofs.group_head.lay_group.Goals as goal
 

@@ -3,13 +3,13 @@ use Rattle.std.proofs.lemmas.List.{append-nil, append_assoc, length-append}
 use Rattle.std.proofs.lemmas.List.Elements.{All-from_get_or}
 use Rattle.xr_base.specs.Image.{part}
 use Rattle.xr_base.specs.declared.address.GroupNo.{GroupNo}
-use Rattle.xr_base.specs.declared.geometry.TheConstants.{BLOCK_BYTES}
-use Rattle.xr_headers.specs.declared.layout.TheConstants.{BLOCK_SEAL, UUID_BYTES}
+use Rattle.xr_base.specs.declared.geometry.TheConstants.{BLOCK_BYTES, UUID_BYTES}
+use Rattle.xr_headers.specs.declared.layout.TheConstants.{BLOCK_SEAL}
 use Rattle.xr_headers.specs.declared.group_head.GroupHead.{GroupHead}
 use Rattle.xr_headers.specs.Headers.{group_block, group_fields, group_opening, IsGroupHead}
-use Rattle.xr_headers.specs.Sealed.{words}
-use Rattle.xr_headers.specs.SealedLaws.{length-words}
-use Rattle.xr_headers.proofs.Reading.{read_back}
+use Rattle.xr_headers.specs.Padded.{words}
+use Rattle.xr_headers.specs.PaddedLaws.{length-words}
+use Rattle.xr_headers.specs.ReadBackLaws.{read_back}
 use Rattle.xr_headers.proofs.group_head.read_group.Goals as goal
 
 make : GroupNo → List ℕ → List ℕ → List ℕ → List ℕ → GroupHead

@@ -4,14 +4,14 @@ use Rattle.xr_base.specs.declared.geometry.TheConstants.{BLOCK_BYTES}
 use Rattle.xr_headers.specs.declared.layout.TheConstants.{BLOCK_SEAL, GROUP_BYTES}
 use Rattle.xr_headers.specs.declared.group_head.GroupHead.{GroupHead}
 use Rattle.xr_headers.specs.Headers.{group_block, group_fields, KeepsPool}
-use Rattle.xr_headers.specs.Sealed.{padded, sealed, IsLaid}
+use Rattle.xr_headers.specs.Padded.{IsLaid, with_crc, zero_padded}
 use Rattle.xr_headers.specs.FirstWrong.{IsGroupOutOfRange, NamesGroupField}
-use Rattle.xr_headers.proofs.Naming.{Finds, field_named}
-use Rattle.xr_headers.proofs.Sealing.{wanted_is}
+use Rattle.xr_headers.proofs.FirstWrongLemmas.{Finds, field_named}
+use Rattle.xr_headers.specs.ChecksumLaws.{wanted_is}
 use Rattle.xr_headers.proofs.group_head.take_group.Goals as goal
 
 block : (bytes : List ℕ) (v : GroupHead) (wanted : List ℕ) → length bytes ≡ BLOCK_BYTES → IsLaid GROUP_BYTES GROUP_BYTES (group_fields v) wanted
-    → sealed (length bytes - 4) (padded (length bytes) wanted) ≡ group_block v
+    → with_crc (length bytes - 4) (zero_padded (length bytes) wanted) ≡ group_block v
 block bytes v wanted long laid = wanted_is BLOCK_BYTES BLOCK_SEAL GROUP_BYTES bytes (group_fields v) wanted long (omega arith) (omega arith) laid
 
 pub returns-in-None-clause-ok : goal.returns-in-None-clause-ok

@@ -1,5 +1,5 @@
 use Rattle.std.proofs.Common.{length, refl, arith}
-use Rattle.xr_headers.proofs.Laying.{laid_none, laid_next}
+use Rattle.xr_headers.proofs.FieldLemmas.{laid_none, laid_next}
 use Rattle.xr_headers.specs.Headers.{super_fields, super_opening, super_geometry}
 use Rattle.xr_headers.proofs.superblock.lay_super.Goals as goal
 

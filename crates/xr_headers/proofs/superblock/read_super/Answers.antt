@@ -4,7 +4,7 @@ use Rattle.xr_base.specs.declared.geometry.TheConstants.{BLOCK_BYTES}
 use Rattle.xr_headers.specs.Headers.{super_fields, super_opening, super_geometry}
 use Rattle.xr_headers.specs.declared.layout.TheConstants.{BLOCK_SEAL}
 use Rattle.xr_headers.specs.declared.superblock.Super.{Super}
-use Rattle.xr_headers.proofs.Reading.{read_back}
+use Rattle.xr_headers.specs.ReadBackLaws.{read_back}
 use Rattle.xr_headers.proofs.superblock.read_super.Goals as goal
 
 fields : (v : Super) → super_fields v ≡ super_opening ++ v.uuid ++ super_geometry

@@ -3,14 +3,14 @@ use Rattle.xr_base.specs.declared.geometry.TheConstants.{BLOCK_BYTES}
 use Rattle.xr_headers.specs.declared.layout.TheConstants.{BLOCK_SEAL, SUPER_BYTES}
 use Rattle.xr_headers.specs.declared.superblock.Super.{Super}
 use Rattle.xr_headers.specs.Headers.{super_block, super_fields}
-use Rattle.xr_headers.specs.Sealed.{padded, sealed, IsLaid}
+use Rattle.xr_headers.specs.Padded.{IsLaid, with_crc, zero_padded}
 use Rattle.xr_headers.specs.FirstWrong.{NamesSuperField}
-use Rattle.xr_headers.proofs.Naming.{Finds, field_named}
-use Rattle.xr_headers.proofs.Sealing.{wanted_is}
+use Rattle.xr_headers.proofs.FirstWrongLemmas.{Finds, field_named}
+use Rattle.xr_headers.specs.ChecksumLaws.{wanted_is}
 use Rattle.xr_headers.proofs.superblock.take_super.Goals as goal
 
 block : (bytes : List ℕ) (v : Super) (wanted : List ℕ) → length bytes ≡ BLOCK_BYTES → IsLaid SUPER_BYTES SUPER_BYTES (super_fields v) wanted
-    → sealed (length bytes - 4) (padded (length bytes) wanted) ≡ super_block v
+    → with_crc (length bytes - 4) (zero_padded (length bytes) wanted) ≡ super_block v
 block bytes v wanted long laid = wanted_is BLOCK_BYTES BLOCK_SEAL SUPER_BYTES bytes (super_fields v) wanted long (omega arith) (omega arith) laid
 
 pub returns-in-None-clause-ok : goal.returns-in-None-clause-ok

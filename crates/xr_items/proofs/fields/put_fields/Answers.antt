@@ -3,7 +3,7 @@ use Rattle.std.proofs.lemmas.List.{length-append}
 use Rattle.xr_items.specs.declared.fields.Field.{Field}
 use Rattle.xr_items.specs.declared.fields.Field.TheVariants.{Half}
 use Rattle.xr_items.specs.Fields.{laid, field_bytes}
-use Rattle.xr_items.proofs.Laid.{next_fits, laid-more, written_behind, length-field_bytes}
+use Rattle.xr_items.specs.FieldLaws.{next_fits, laid-more, written_behind, length-field_bytes}
 use Rattle.xr_items.proofs.fields.put_fields.Goals as goal
 
 pub loop-field-init : goal.loop-field-init

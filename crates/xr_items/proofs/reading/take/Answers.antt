@@ -1,7 +1,7 @@
 use Rattle.std.proofs.Common.{rules, ◌≡◌, ◌∙◌, Ok, Err, ℕ, ap, subst, arith}
 use Rattle.xr_items.specs.declared.item.ItemFault.TheVariants.{Field}
-use Rattle.xr_items.specs.FirstBroken.{Refuses}
-use Rattle.xr_items.proofs.Whole.{framed_item, held_item, item_from, never_refused, refused_once, same_item, same_kind_of}
+use Rattle.xr_items.specs.FirstBroken.{RefusesItem}
+use Rattle.xr_items.specs.ItemLaws.{framed_item, held_item, item_from, never_refused, refused_once, same_item, same_kind_of}
 use Rattle.xr_items.proofs.reading.take.Goals as goal
 
 pub returns-in_err-kind-clause-complete : goal.returns-in_err-kind-clause-complete
@@ -12,7 +12,7 @@ pub returns-in_err-kind-clause-refused : goal.returns-in_err-kind-clause-refused
 returns-in_err-kind-clause-refused c =
     λ fault.
     let same : c.from_residual.result ≡ Err c.in_err-kind.field-0.0 = search rules in (
-      λ is. let e : c.in_err-kind.field-0.0 ≡ fault = cc in subst (Refuses c.args.region.now) e c.in_err-kind.ensures,
+      λ is. let e : c.in_err-kind.field-0.0 ≡ fault = cc in subst (RefusesItem c.args.region.now) e c.in_err-kind.ensures,
       λ refused. same ∙ ap Err (refused_once c.args.region.now c.in_err-kind.field-0.0 fault c.in_err-kind.ensures refused),
     )
 
@@ -42,7 +42,7 @@ returns-in-Err-clause-complete c =
 pub returns-in-Err-clause-refused : goal.returns-in-Err-clause-refused
 returns-in-Err-clause-refused c =
     λ fault.
-    let here : Refuses c.args.region.now (Field c.in-Err.place) = (c.in_ok-kind.kind, c.in_ok-kind.ensures, c.in-Err.ensures) in (
-      λ is. let e : Field c.in-Err.place ≡ fault = cc in subst (Refuses c.args.region.now) e here,
+    let here : RefusesItem c.args.region.now (Field c.in-Err.place) = (c.in_ok-kind.kind, c.in_ok-kind.ensures, c.in-Err.ensures) in (
+      λ is. let e : Field c.in-Err.place ≡ fault = cc in subst (RefusesItem c.args.region.now) e here,
       λ refused. ap Err (refused_once c.args.region.now (Field c.in-Err.place) fault here refused),
     )

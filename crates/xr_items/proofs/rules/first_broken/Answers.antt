@@ -1,5 +1,5 @@
 use Rattle.std.proofs.Common.{ℕ, Bool, false, arith}
-use Rattle.xr_items.proofs.Ordered.{all_kept, first_broken_at}
+use Rattle.xr_items.proofs.FirstBrokenLemmas.{all_kept, first_broken_at}
 use Rattle.xr_items.proofs.rules.first_broken.Goals as goal
 
 pub returns-then-not-kept-clause-first : goal.returns-then-not-kept-clause-first

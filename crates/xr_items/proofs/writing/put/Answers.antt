@@ -1,6 +1,6 @@
 use Rattle.std.proofs.Common.{arith}
 use Rattle.xr_items.specs.declared.item.Item.TheVariants.{Buf, Inode, Begin, Done}
-use Rattle.xr_items.proofs.Whole.{item_within}
+use Rattle.xr_items.specs.ItemLaws.{item_within}
 use Rattle.xr_items.proofs.writing.put.Goals as goal
 
 pub returns-in-Buf-clause-within : goal.returns-in-Buf-clause-within

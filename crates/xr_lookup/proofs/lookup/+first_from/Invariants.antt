@@ -1,9 +1,9 @@
 use Rattle.std.proofs.Common.{◌≡◌, ◌-◌, drop}
 use Rattle.std.specs.List.{find, flat_map}
 use Rattle.xr_lookup.specs.Lookup.{is_wanted}
-use Rattle.xr_blocks.specs.Overlay.{block_at}
-use Rattle.xr_blocks.specs.Tree.{tree_records}
-use Rattle.xr_blocks.specs.TreeBlock.{Entry, entries_in}
+use Rattle.xr_pool.specs.Overlay.{block_at}
+use Rattle.xr_block.specs.Tree.{tree_records}
+use Rattle.xr_block.specs.TreeBlock.{Entry, entries_in}
 use Rattle.xr_lookup.proofs.lookup.+first_from.Given as goal
 
 abbrev pub invariant-loop-k : goal.invariant-loop-k

@@ -1,6 +1,6 @@
 use Rattle.std.proofs.Common.{sym, subst}
 use Rattle.xr_lookup.specs.Lookup.{FindsLeast, from}
-use Rattle.xr_blocks.specs.Tree.{tree_records}
+use Rattle.xr_block.specs.Tree.{tree_records}
 use Rattle.xr_lookup.proofs.FoundLemmas.{least_found}
 use Rattle.xr_lookup.proofs.lookup.at_least.Goals as goal
 

@@ -1,6 +1,6 @@
 use Rattle.std.proofs.Common.{sym, subst}
 use Rattle.xr_lookup.specs.Lookup.{FindsGreatest, up_to}
-use Rattle.xr_blocks.specs.Tree.{tree_records}
+use Rattle.xr_block.specs.Tree.{tree_records}
 use Rattle.xr_lookup.proofs.FoundLemmas.{greatest_found}
 use Rattle.xr_lookup.proofs.lookup.at_most.Goals as goal
 

@@ -2,10 +2,10 @@ use Rattle.std.proofs.Common.{◌≡◌, ◌∙◌, ◌+◌, ℕ, suc, drop, sym
 use Rattle.std.proofs.lemmas.List.{drop_all}
 use Rattle.std.specs.List.{find}
 use Rattle.xr_lookup.specs.Lookup.{is_wanted}
-use Rattle.xr_blocks.specs.Overlay.{block_at}
-use Rattle.xr_blocks.specs.TreeBlock.{records_in}
+use Rattle.xr_pool.specs.Overlay.{block_at}
+use Rattle.xr_block.specs.TreeBlock.{records_in}
 use Rattle.xr_lookup.proofs.DescentLemmas.{behind_in_leaf}
-use Rattle.xr_lookup.proofs.PartLemmas.{found_here, passed_here, present}
+use Rattle.xr_block.specs.PartLaws.{found_here, passed_here, present}
 use Rattle.xr_lookup.proofs.lookup.first_in_leaf.Goals as goal
 
 pub loop-k-init : goal.loop-k-init

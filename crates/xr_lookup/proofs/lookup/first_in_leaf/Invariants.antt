@@ -1,9 +1,9 @@
 use Rattle.std.proofs.Common.{◌≡◌, drop}
 use Rattle.std.specs.List.{find}
 use Rattle.xr_lookup.specs.Lookup.{is_wanted}
-use Rattle.xr_blocks.specs.Overlay.{block_at}
-use Rattle.xr_blocks.specs.Tree.{tree_records}
-use Rattle.xr_blocks.specs.TreeBlock.{records_in}
+use Rattle.xr_pool.specs.Overlay.{block_at}
+use Rattle.xr_block.specs.Tree.{tree_records}
+use Rattle.xr_block.specs.TreeBlock.{records_in}
 use Rattle.xr_lookup.proofs.lookup.first_in_leaf.Given as goal
 
 abbrev pub invariant-loop-k : goal.invariant-loop-k

@@ -1,8 +1,8 @@
 use Rattle.std.proofs.Common.{◌∙◌, get_or, sym, ap}
-use Rattle.xr_blocks.specs.Overlay.{block_at}
-use Rattle.xr_blocks.specs.Spans.{meet}
-use Rattle.xr_blocks.specs.Tree.{tree_records}
-use Rattle.xr_blocks.specs.TreeBlock.{entries_in}
+use Rattle.xr_pool.specs.Overlay.{block_at}
+use Rattle.xr_kinds.specs.Spans.{meet}
+use Rattle.xr_block.specs.Tree.{tree_records}
+use Rattle.xr_block.specs.TreeBlock.{entries_in}
 use Rattle.xr_lookup.proofs.ReachLemmas.{none_held}
 use Rattle.xr_lookup.proofs.lookup.may_hold.Goals as goal
 

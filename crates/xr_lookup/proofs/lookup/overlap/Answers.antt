@@ -1,6 +1,6 @@
 use Rattle.std.proofs.Common.{Some, sym, subst}
 use Rattle.xr_lookup.specs.Lookup.{FindsLeast, is_wanted}
-use Rattle.xr_blocks.specs.Tree.{tree_records}
+use Rattle.xr_block.specs.Tree.{tree_records}
 use Rattle.xr_lookup.proofs.FoundLemmas.{least_found, overlaps_is}
 use Rattle.xr_lookup.proofs.lookup.overlap.Goals as goal
 

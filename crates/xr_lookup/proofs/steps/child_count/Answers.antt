@@ -1,8 +1,8 @@
 use Rattle.std.proofs.Common.{◌∙◌, ◌+◌, sym, ap}
-use Rattle.xr_node.specs.NodeLaws.{length-entries}
-use Rattle.xr_blocks.specs.Overlay.{block_at}
-use Rattle.xr_blocks.specs.TreeBlock.{count_in}
-use Rattle.xr_lookup.proofs.DescentLemmas.{in_pool}
+use Rattle.xr_block.specs.NodeEntryLaws.{length-entries}
+use Rattle.xr_pool.specs.Overlay.{block_at}
+use Rattle.xr_block.specs.TreeBlock.{count_in}
+use Rattle.xr_block.specs.DescentLaws.{in_pool}
 use Rattle.xr_lookup.proofs.steps.child_count.Goals as goal
 
 pub block-requires : goal.block-requires

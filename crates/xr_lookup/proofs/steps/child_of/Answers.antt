@@ -1,7 +1,7 @@
 use Rattle.std.proofs.Common.{◌+◌, arith}
-use Rattle.xr_node.specs.NodeLaws.{length-entries}
-use Rattle.xr_blocks.specs.Overlay.{block_at}
-use Rattle.xr_lookup.proofs.DescentLemmas.{child_is, in_pool, node_few}
+use Rattle.xr_block.specs.NodeEntryLaws.{length-entries}
+use Rattle.xr_pool.specs.Overlay.{block_at}
+use Rattle.xr_block.specs.DescentLaws.{child_is, in_pool, node_few}
 use Rattle.xr_lookup.proofs.steps.child_of.Goals as goal
 
 pub block-requires : goal.block-requires

@@ -1,7 +1,7 @@
 use Rattle.std.proofs.Common.{◌+◌, ◌≤◌, ℕ, List, sym, subst, arith}
-use Rattle.xr_lookup.specs.Cuts.{IsParted, entry_is_before}
-use Rattle.xr_blocks.specs.TreeBlock.{count_in, entries_in}
-use Rattle.xr_lookup.proofs.DescentLemmas.{in_pool, node_few, node_parted}
+use Rattle.xr_block.specs.Bounds.{IsParted, entry_is_before}
+use Rattle.xr_block.specs.TreeBlock.{count_in, entries_in}
+use Rattle.xr_block.specs.DescentLaws.{in_pool, node_few, node_parted}
 use Rattle.xr_lookup.proofs.steps.children_before.Goals as goal
 
 pub block-requires : goal.block-requires

@@ -1,10 +1,11 @@
 use Rattle.std.proofs.Common.{◌+◌, ◌<◌, ◌≤◌, ℕ, List, sym, subst, arith}
-use Rattle.xr_node.specs.Node.{high_key_in, low_key_from, low_key_in}
-use Rattle.xr_node.specs.NodeLaws.{length-entries}
-use Rattle.xr_blocks.specs.Overlay.{block_at}
+use Rattle.xr_block.specs.NodeEntries.{high_key_in, low_key_from, low_key_in}
+use Rattle.xr_block.specs.NodeEntryLaws.{length-entries}
+use Rattle.xr_pool.specs.Overlay.{block_at}
 use Rattle.xr_lookup.specs.Reach.{IsInside, IsUnderKeys}
-use Rattle.xr_blocks.specs.TreeBlock.{count_in}
-use Rattle.xr_lookup.proofs.DescentLemmas.{in_pool, keys_tell, node_few}
+use Rattle.xr_block.specs.TreeBlock.{count_in}
+use Rattle.xr_block.specs.DescentLaws.{in_pool, node_few}
+use Rattle.xr_lookup.proofs.DescentLemmas.{keys_tell}
 use Rattle.xr_lookup.proofs.steps.reach_of.Goals as goal
 
 pub block-requires : goal.block-requires

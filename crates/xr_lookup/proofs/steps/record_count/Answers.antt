@@ -1,6 +1,6 @@
 use Rattle.std.proofs.Common.{◌∙◌, sym, ap}
-use Rattle.xr_blocks.specs.TreeBlock.{count_in}
-use Rattle.xr_lookup.proofs.DescentLemmas.{in_pool, leaf_is}
+use Rattle.xr_block.specs.TreeBlock.{count_in}
+use Rattle.xr_block.specs.DescentLaws.{in_pool, leaf_is}
 use Rattle.xr_lookup.proofs.steps.record_count.Goals as goal
 
 pub block-requires : goal.block-requires

@@ -1,5 +1,5 @@
 use Rattle.std.proofs.Common.{◌≡◌, ◌+◌, ◌-◌, length, arith}
-use Rattle.xr_record.proofs.Overlays.{put_mid-overlaid}
+use Rattle.xr_record.specs.OverlayLaws.{put_mid-overlaid}
 use Rattle.xr_record.proofs.bytes.put.Goals as goal
 
 pub returns : goal.returns

@@ -1,5 +1,5 @@
 use Rattle.std.proofs.Common.{◌≡◌, arith, length}
-use Rattle.xr_record.proofs.Overlays.{fields_written}
+use Rattle.xr_record.specs.OverlayLaws.{fields_written}
 use Rattle.xr_record.specs.Record.{zeros}
 use Rattle.xr_record.proofs.header.put_fields_after.Goals as goal
 

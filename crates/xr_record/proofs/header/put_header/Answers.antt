@@ -1,4 +1,4 @@
-use Rattle.xr_record.proofs.Overlays.{take-overlaid}
+use Rattle.xr_record.specs.OverlayLaws.{take-overlaid}
 use Rattle.std.proofs.Common.{arith, refl}
 use Rattle.xr_record.proofs.header.put_header.Goals as goal
 

@@ -1,7 +1,7 @@
 use Rattle.std.proofs.Common.{◌∙◌, refl, sym, arith}
 use Rattle.std.proofs.lemmas.List.{drop_all, take_rest}
 use Rattle.xr_record.specs.Kept.{front_of}
-use Rattle.xr_record.proofs.Holding.{body_breaks, completes, held_total}
+use Rattle.xr_record.specs.HoldLaws.{body_breaks, completes, held_total}
 use Rattle.xr_record.proofs.kept.complete.Goals as goal
 
 pub returns-in-Some-clause-fault : goal.returns-in-Some-clause-fault

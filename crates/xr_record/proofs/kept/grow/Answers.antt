@@ -2,7 +2,7 @@ use Rattle.std.proofs.Common.{◌≡◌, ◌≤◌, ◌∙◌, arith, ap, length
 use Rattle.std.proofs.lemmas.List.{length-append, length-take-le}
 use Rattle.xr_record.specs.declared.operation.Fields.{Fields}
 use Rattle.xr_record.specs.Operations.{fields}
-use Rattle.xr_record.proofs.Growing.{body_grown}
+use Rattle.xr_record.proofs.GrowthLemmas.{body_grown}
 use Rattle.xr_record.proofs.kept.grow.Goals as goal
 
 pub returns-clause-grown : goal.returns-clause-grown

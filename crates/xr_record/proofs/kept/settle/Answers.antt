@@ -2,7 +2,7 @@ use Rattle.std.proofs.Common.{◌≤◌, ◌∙◌, ap, refl, inl, length, arith
 use Rattle.xr_record.specs.declared.operation.Fields.{Fields}
 use Rattle.xr_record.specs.Kept.{region_items}
 use Rattle.xr_record.specs.Operations.{fields}
-use Rattle.xr_record.proofs.Holding.{body_partial, header_breaks}
+use Rattle.xr_record.specs.HoldLaws.{body_partial, header_breaks}
 use Rattle.xr_record.proofs.kept.settle.Goals as goal
 
 pub returns-in-Err-clause-fault : goal.returns-in-Err-clause-fault

@@ -3,8 +3,8 @@ use Rattle.std.proofs.lemmas.List.{length-drop, take-append-drop, take_all, take
 use Rattle.std.proofs.lemmas.Result.{err_from_is_err_and}
 use Rattle.xr_record.specs.Kept.{held_in}
 use Rattle.xr_record.specs.Reading.{FailsOn}
-use Rattle.xr_record.proofs.Overlays.{take-add}
-use Rattle.xr_record.proofs.Streaming.{fails_more, takes_more}
+use Rattle.xr_record.specs.OverlayLaws.{take-add}
+use Rattle.xr_record.proofs.StreamLemmas.{fails_more, takes_more}
 use Rattle.xr_record.proofs.reader.read.Goals as goal
 
 pub returns-in_err-advance-clause-fault : goal.returns-in_err-advance-clause-fault

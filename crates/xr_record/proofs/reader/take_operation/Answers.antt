@@ -2,7 +2,7 @@ use Rattle.std.proofs.Common.{◌++◌, subst, take, drop, List, ℕ}
 use Rattle.std.proofs.lemmas.List.{take-append-drop}
 use Rattle.std.proofs.lemmas.Result.{err_from_is_err_and}
 use Rattle.xr_record.specs.Reading.{IsFaultOf}
-use Rattle.xr_record.proofs.Streaming.{fails_on, settles_reads}
+use Rattle.xr_record.proofs.StreamLemmas.{fails_on, settles_reads}
 use Rattle.xr_record.proofs.reader.take_operation.Goals as goal
 
 pub returns-in_err-entry-clause-fault : goal.returns-in_err-entry-clause-fault

@@ -1,4 +1,4 @@
-use Rattle.xr_record.proofs.Holding.{items_more}
+use Rattle.xr_record.specs.HoldLaws.{items_more}
 use Rattle.xr_record.proofs.rules.are_items.Goals as goal
 
 pub loop-region-preserved : goal.loop-region-preserved

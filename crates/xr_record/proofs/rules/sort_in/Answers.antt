@@ -1,6 +1,6 @@
 use Rattle.std.proofs.Common.{◌≡◌, ◌∙◌, sym, true, eqb, false, arith}
 use Rattle.std.proofs.lemmas.Bool.Decides.{nat_tests}
-use Rattle.xr_record.proofs.Headers.{client_fault, come_fault, len_fault, no_sort_fault, right_header, tid_fault, zeros_fault}
+use Rattle.xr_record.specs.HeaderRuleLaws.{client_fault, come_fault, len_fault, no_sort_fault, right_header, tid_fault, zeros_fault}
 use Rattle.xr_record.proofs.rules.sort_in.Goals as goal
 
 pub returns-then-not-is_client : goal.returns-then-not-is_client

@@ -1,4 +1,4 @@
-use Rattle.xr_record.proofs.Sectors.{sectors_sealed}
+use Rattle.xr_record.proofs.SectorLemmas.{sectors_sealed}
 use Rattle.xr_record.proofs.sealing.seal.Goals as goal
 
 pub returns : goal.returns

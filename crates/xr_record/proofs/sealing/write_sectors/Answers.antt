@@ -1,5 +1,5 @@
 use Rattle.std.proofs.Common.{◌∙◌}
-use Rattle.xr_record.proofs.Sectors.{sectors_written}
+use Rattle.xr_record.proofs.SectorLemmas.{sectors_written}
 use Rattle.xr_record.proofs.sealing.write_sectors.Goals as goal
 
 pub returns : goal.returns

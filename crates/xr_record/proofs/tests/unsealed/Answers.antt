@@ -1,12 +1,12 @@
 use Rattle.std.proofs.Common.{◌≡◌, ℕ, ◌+◌, ◌-◌, ◌*◌, ◌∙◌, List, ◌++◌, length, take, drop, replicate, refl, sym, ap, arith}
 use Rattle.std.proofs.lemmas.List.{append_assoc, drop-replicate, drop_at, length-replicate, length-take-le, take_at}
 use Rattle.xr_base.specs.Image.{overlaid, part}
-use Rattle.xr_record.specs.Record.{padded, sectors_of, zeros}
+use Rattle.xr_record.specs.Record.{sectors_of, zeros, padded_body}
 use Rattle.xr_record.proofs.tests.unsealed.Goals as goal
 
 -- a body in a room of zeros has its padding
 room_padded : (l len : ℕ) (body p items w : List ℕ) → length body ≡ len → p ≡ overlaid 512 body (replicate (512 + 512 * sectors_of len) 0) → l ≡ length p
-    → w ≡ take l (p ++ drop (length p) items) → drop 512 w ≡ padded (part 512 len w)
+    → w ≡ take l (p ++ drop (length p) items) → drop 512 w ≡ padded_body (part 512 len w)
 unfolding zeros
 room_padded l len body p items w e is h k =
     let z : List ℕ = replicate (512 + 512 * sectors_of len) 0 in

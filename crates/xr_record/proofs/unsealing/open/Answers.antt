@@ -1,6 +1,6 @@
 use Rattle.std.proofs.Common.{◌≡◌, arith, refl}
 use Rattle.xr_record.specs.Unsealing.{body_in}
-use Rattle.xr_record.proofs.Sectors.{body_put_back, restamped}
+use Rattle.xr_record.proofs.SectorLemmas.{body_put_back, restamped}
 use Rattle.xr_record.proofs.unsealing.open.Goals as goal
 
 pub returns-then-is_zero-clause-padded : goal.returns-then-is_zero-clause-padded

@@ -1,7 +1,7 @@
 use Rattle.std.proofs.Common.{refl, sym, ap, ◌∙◌, Ok}
 use Rattle.std.proofs.lemmas.Bool.{false≢true}
-use Rattle.xr_record.proofs.Unsealed.{opens_by_rules}
-use Rattle.xr_record.proofs.Sealed.{sealed_checksum, sealed_head, sealed_length, sealed_place, sealed_version}
+use Rattle.xr_record.specs.UnsealLaws.{opens_by_rules}
+use Rattle.xr_record.specs.SealedRecordLaws.{sealed_checksum, sealed_head, sealed_length, sealed_place, sealed_version}
 use Rattle.xr_record.proofs.unsealing.unseal.Goals as goal
 
 pub returns-then-not-has_version-clause-every : goal.returns-then-not-has_version-clause-every
@@ -31,7 +31,7 @@ pub returns-then-not-open-clause-refused : goal.returns-then-not-open-clause-ref
 returns-then-not-open-clause-refused c =
     let padded = rw c.head_in-head.ensures.values at c.open.ensures.padded in (
       refl,
-      sym c.word_at.ensures ∙ c.if-word_at.false,
+      sym c.be32_at.ensures ∙ c.if-be32_at.false,
       c.has_version.ensures.0 c.if-not-has_version.false,
       c.has_length.ensures.0 c.if-not-has_length.false,
       c.has_checksum.ensures.checksum.0 c.if-not-has_checksum.false,
@@ -47,7 +47,7 @@ returns-clause-opened c =
     let padded = rw c.head_in-head.ensures.values at c.open.ensures.padded in
     let opened = rw c.head_in-head.ensures.values at c.open.ensures.opened in
     rw c.head_in-head.ensures.values
-    (opens_by_rules _ _ _ c.head_in-head.ensures.small (sym c.word_at.ensures ∙ c.if-word_at.false) (c.has_version.ensures.0 c.if-not-has_version.false)
+    (opens_by_rules _ _ _ c.head_in-head.ensures.small (sym c.be32_at.ensures ∙ c.if-be32_at.false) (c.has_version.ensures.0 c.if-not-has_version.false)
     (c.has_length.ensures.0 c.if-not-has_length.false) (c.has_checksum.ensures.checksum.0 c.if-not-has_checksum.false)
     record { placed = c.is_placed.ensures.0 c.if-not-is_placed.false; padding = padded.0 c.if-not-open.false }
     (opened c.if-not-open.false))

@@ -1,5 +1,5 @@
 use Rattle.std.proofs.Common.{◌+◌, ◌-◌, ◌*◌, ◌≡◌, arith}
-use Rattle.xr_record.proofs.Overlays.{restored_more}
+use Rattle.xr_record.specs.OverlayLaws.{restored_more}
 use Rattle.xr_record.proofs.words.restore.Goals as goal
 
 pub loop-i-preserved : goal.loop-i-preserved

@@ -1,6 +1,6 @@
 use Rattle.std.proofs.Common.{◌≡◌, ◌+◌, ◌-◌, ◌*◌, ◌∙◌, arith, refl, length, take, drop}
 use Rattle.std.proofs.lemmas.List.{length-take-le, length-drop}
-use Rattle.xr_record.proofs.Overlays.{drop_words, moved_more, stamped_more}
+use Rattle.xr_record.specs.OverlayLaws.{drop_words, moved_more, stamped_more}
 use Rattle.xr_record.proofs.words.stamp.Goals as goal
 
 pub loop-i-preserved : goal.loop-i-preserved

@@ -1,12 +1,12 @@
 use Rattle.std.proofs.Common.{◌≡◌, ℕ, ◌-◌, ◌*◌, ◌∙◌, List, ◌++◌, length, drop, replicate, refl, ap, arith}
 use Rattle.std.proofs.lemmas.List.{append_assoc, drop_at, length-replicate, take_at}
 use Rattle.xr_base.specs.Image.{part}
-use Rattle.xr_record.specs.Record.{padded, sectors_of, zeros}
+use Rattle.xr_record.specs.Record.{sectors_of, zeros, padded_body}
 use Rattle.xr_rows.proofs.log.sealed.Goals as goal
 
 -- zeros stand behind a body
 padded_behind : (len : ℕ) (front body rest out : List ℕ) → length front ≡ 512 → length body ≡ len → rest ≡ replicate (512 * sectors_of len - len) 0
-    → out ≡ (front ++ body) ++ rest → drop 512 out ≡ padded (part 512 len out)
+    → out ≡ (front ++ body) ++ rest → drop 512 out ≡ padded_body (part 512 len out)
 unfolding zeros
 padded_behind len front body rest out long e zero is =
     let below : drop 512 out ≡ body ++ rest = ap (drop 512) (is ∙ append_assoc front body rest) ∙ drop_at front (body ++ rest) 512 long in

@@ -2,7 +2,7 @@
 use Rattle.std.proofs.Common.{◌≡◌, ℕ, suc, ◌+◌, ◌&&◌, if◌then◌else◌, refl, arith}
 use Rattle.std.proofs.lemmas.Bool.Decides.{nat_tests}
 use Rattle.std.specs.Prelude.{nat_lt}
-use Rattle.xr_blocks.specs.Overlay.{Blocks, free_below, is_free}
+use Rattle.xr_pool.specs.Overlay.{Blocks, free_below, is_free}
 use Rattle.xr_tree.proofs.growth.free_blocks.Goals as goal
 use Rattle.xr_tree.proofs.growth.free_blocks.Goals.{then-n-gt0+then-is_free, else-n-gt0, else-n-gt0-via-then-n-gt0+else-is_free, else-n-gt0-via-else-n-gt0}
 

@@ -1,6 +1,6 @@
 -- The free blocks up to a block are counted.
 use Rattle.std.proofs.Common.{◌≡◌, ◌≤◌}
-use Rattle.xr_blocks.specs.Overlay.{free_below}
+use Rattle.xr_pool.specs.Overlay.{free_below}
 use Rattle.xr_tree.proofs.growth.free_blocks.Given as goal
 
 abbrev pub invariant-loop-n : goal.invariant-loop-n

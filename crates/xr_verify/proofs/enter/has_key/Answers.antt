@@ -1,5 +1,5 @@
 use Rattle.std.proofs.Common.{◌∙◌, ap, sym, arith, length}
-use Rattle.xr_verify.proofs.Entering.{leaf_key, no_key, node_key}
+use Rattle.xr_verify.proofs.EnterLemmas.{leaf_key, no_key, node_key}
 use Rattle.xr_verify.proofs.enter.has_key.Goals as goal
 
 pub returns-then-count_of-eq0 : goal.returns-then-count_of-eq0

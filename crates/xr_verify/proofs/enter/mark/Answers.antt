@@ -1,7 +1,7 @@
 use Rattle.std.proofs.Common.{◌≡◌, sym, subst, arith, false, ◌∙◌, [], ◌∷◌}
-use Rattle.xr_blocks.specs.Bits.{has_bit}
+use Rattle.xr_pool.specs.Bits.{has_bit}
 use Rattle.xr_verify.specs.Visits.{AreMarked}
-use Rattle.xr_verify.proofs.Entering.{marks_one}
+use Rattle.xr_verify.proofs.EnterLemmas.{marks_one}
 use Rattle.xr_verify.proofs.enter.mark.Goals as goal
 
 pub returns-clause-marked : goal.returns-clause-marked

@@ -1,7 +1,7 @@
 use Rattle.std.proofs.Common.{◌∙◌, ◌≤◌, length, sym, refl, arith}
-use Rattle.xr_node.proofs.ItemTesting.{records_count}
-use Rattle.xr_verify.proofs.Passing.{climbed, climbs_on}
-use Rattle.xr_blocks.specs.TreeBlock.{records_in}
+use Rattle.xr_block.specs.ItemCheckLaws.{records_count}
+use Rattle.xr_verify.proofs.PassLemmas.{climbed, climbs_on}
+use Rattle.xr_block.specs.TreeBlock.{records_in}
 use Rattle.xr_verify.proofs.passed.climb.Goals as goal
 
 pub returns-then-not-is_above : goal.returns-then-not-is_above

@@ -1,6 +1,6 @@
 use Rattle.std.proofs.Common.{drop}
 use Rattle.xr_verify.specs.Ledger.{Climb}
-use Rattle.xr_blocks.specs.TreeBlock.{records_in}
+use Rattle.xr_block.specs.TreeBlock.{records_in}
 use Rattle.xr_verify.proofs.passed.climb.Given as goal
 
 abbrev pub invariant-loop-k : goal.invariant-loop-k

@@ -1,7 +1,7 @@
 use Rattle.std.proofs.Common.{◌-◌, arith}
-use Rattle.xr_node.proofs.ItemTesting.{records_count}
-use Rattle.xr_verify.proofs.Lasts.{last_is, no_last}
-use Rattle.xr_blocks.specs.TreeBlock.{records_in}
+use Rattle.xr_block.specs.ItemCheckLaws.{records_count}
+use Rattle.xr_verify.proofs.LastLemmas.{last_is, no_last}
+use Rattle.xr_block.specs.TreeBlock.{records_in}
 use Rattle.xr_verify.proofs.passed.last_record.Goals as goal
 
 pub returns-then-count-eq0 : goal.returns-then-count-eq0

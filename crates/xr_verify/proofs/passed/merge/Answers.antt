@@ -1,7 +1,7 @@
 use Rattle.std.proofs.Common.{◌∙◌, ◌<◌, length, sym, refl, arith}
-use Rattle.xr_node.proofs.ItemTesting.{records_count}
-use Rattle.xr_verify.proofs.Passing.{merged_all, merged_more, merged_next, merged_not}
-use Rattle.xr_blocks.specs.TreeBlock.{records_in}
+use Rattle.xr_block.specs.ItemCheckLaws.{records_count}
+use Rattle.xr_verify.proofs.PassLemmas.{merged_all, merged_more, merged_next, merged_not}
+use Rattle.xr_block.specs.TreeBlock.{records_in}
 use Rattle.xr_verify.proofs.passed.merge.Goals as goal
 
 pub returns-then-not-admits-clause-agree : goal.returns-then-not-admits-clause-agree

@@ -1,8 +1,8 @@
 use Rattle.std.proofs.Common.{List, None}
 use Rattle.std.specs.List.{last_or}
-use Rattle.xr_verify.proofs.Passing.{AreMerged}
+use Rattle.xr_verify.proofs.PassLemmas.{AreMerged}
 use Rattle.xr_verify.specs.Ledger.{ArePassed, Climb}
-use Rattle.xr_blocks.specs.TreeBlock.{records_in}
+use Rattle.xr_block.specs.TreeBlock.{records_in}
 use Rattle.xr_verify.proofs.passed.merge.Given as goal
 
 abbrev pub invariant-loop-k : goal.invariant-loop-k

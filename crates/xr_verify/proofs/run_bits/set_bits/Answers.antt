@@ -1,5 +1,5 @@
 use Rattle.std.proofs.Common.{◌<◌, ◌≤◌, arith, inl, inr, ⊎_elim}
-use Rattle.xr_verify.proofs.Runs.{one_more}
+use Rattle.xr_verify.proofs.RunBitLemmas.{one_more}
 use Rattle.xr_verify.proofs.run_bits.set_bits.Goals as goal
 
 pub loop-n-preserved : goal.loop-n-preserved

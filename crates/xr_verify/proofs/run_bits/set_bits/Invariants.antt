@@ -1,5 +1,5 @@
 use Rattle.std.proofs.Common.{◌≡◌, ◌⊎◌, ℕ, ◌<◌, ◌≤◌, true}
-use Rattle.xr_blocks.specs.Bits.{has_bit}
+use Rattle.xr_pool.specs.Bits.{has_bit}
 use Rattle.xr_verify.proofs.run_bits.set_bits.Given as goal
 
 abbrev pub invariant-loop-n : goal.invariant-loop-n

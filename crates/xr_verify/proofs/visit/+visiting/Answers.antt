@@ -1,13 +1,13 @@
 use Rattle.std.proofs.Common.{◌≡◌, ◌∙◌, ◌<◌, ◌+◌, ◌-◌, ◌++◌, [], ℕ, List, IfSome, true, refl, sym, ap, subst, arith, Some}
 use Rattle.std.specs.Result.{IsOk}
-use Rattle.xr_verify.proofs.Children.{AreVisitedTo, marked_all, marked_more, visited_all}
-use Rattle.xr_verify.proofs.Soundness.{sound_entered}
-use Rattle.xr_verify.proofs.Visited.{IsChild, child_done, child_needed, child_used, leaf_blocks, leaf_records, leaf_rules, length-children, node_marked, node_records, node_rules, not_ok, nth_child}
-use Rattle.xr_blocks.specs.Overlay.{block_at}
+use Rattle.xr_verify.proofs.ChildLemmas.{AreVisitedTo, marked_all, marked_more, visited_all}
+use Rattle.xr_verify.proofs.SoundnessLemmas.{sound_entered}
+use Rattle.xr_verify.proofs.VisitedLemmas.{IsChild, child_done, child_needed, child_used, leaf_blocks, leaf_records, leaf_rules, length-children, node_marked, node_records, node_rules, not_ok, nth_child}
+use Rattle.xr_pool.specs.Overlay.{block_at}
 use Rattle.xr_verify.specs.Passed.{IsPast}
-use Rattle.xr_blocks.specs.Rows.{key_held}
-use Rattle.xr_blocks.specs.Tree.{tree_held}
-use Rattle.xr_blocks.specs.TreeBlock.{count_in}
+use Rattle.xr_block.specs.Rows.{key_held}
+use Rattle.xr_block.specs.Tree.{tree_held}
+use Rattle.xr_block.specs.TreeBlock.{count_in}
 use Rattle.xr_verify.specs.Visits.{AreMarked, last_below}
 use Rattle.xr_verify.proofs.visit.+visiting.Goals as goal
 

@@ -1,5 +1,5 @@
 use Rattle.std.proofs.Common.{◌+◌, ◌*◌, List}
-use Rattle.xr_verify.proofs.Children.{AreMarkedTo, AreVisitedTo}
+use Rattle.xr_verify.proofs.ChildLemmas.{AreMarkedTo, AreVisitedTo}
 use Rattle.xr_verify.specs.Passed.{IsPast}
 use Rattle.xr_verify.specs.Visits.{last_below}
 use Rattle.xr_verify.proofs.visit.+visiting.Given as goal

@@ -1,5 +1,5 @@
 use Rattle.std.proofs.Common.{◌∙◌, ap, length, arith}
-use Rattle.xr_node.proofs.Keys.{length-key}
+use Rattle.xr_block.specs.KeyLaws.{length-key}
 use Rattle.xr_verify.proofs.visit.child_key.Goals as goal
 
 pub returns-clause-long : goal.returns-clause-long

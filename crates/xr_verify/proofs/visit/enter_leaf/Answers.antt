@@ -1,8 +1,8 @@
 use Rattle.std.proofs.Common.{◌≡◌, ◌∙◌, ◌+◌, ◌++◌, List, ℕ, true, ap, arith, length, length-append, refl, subst, sym}
-use Rattle.xr_blocks.specs.Overlay.{block_at}
+use Rattle.xr_pool.specs.Overlay.{block_at}
 use Rattle.xr_verify.specs.Passed.{AreNoted}
-use Rattle.xr_blocks.specs.TreeBlock.{records_in}
-use Rattle.xr_verify.proofs.Entering.{rules_of_leaf}
+use Rattle.xr_block.specs.TreeBlock.{records_in}
+use Rattle.xr_verify.proofs.EnterLemmas.{rules_of_leaf}
 use Rattle.xr_verify.proofs.visit.enter_leaf.Goals as goal
 
 pub returns-clause-rules : goal.returns-clause-rules

@@ -1,5 +1,5 @@
-use Rattle.xr_blocks.specs.Tree.{tree_blocks}
-use Rattle.xr_verify.proofs.WholeTrees.{marked_of, others_of}
+use Rattle.xr_block.specs.Tree.{tree_blocks}
+use Rattle.xr_verify.proofs.WholeTreeLemmas.{marked_of, others_of}
 use Rattle.xr_verify.proofs.visit.verify.Goals as goal
 
 pub returns-clause-marked : goal.returns-clause-marked

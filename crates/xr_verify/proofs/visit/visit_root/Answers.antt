@@ -1,10 +1,10 @@
 use Rattle.std.proofs.Common.{[], None, true, arith}
 use Rattle.std.specs.Result.{IsOk}
-use Rattle.xr_verify.proofs.Children.{sound_used}
-use Rattle.xr_verify.proofs.Visited.{not_ok}
-use Rattle.xr_verify.proofs.WholeRows.{AreKnown}
-use Rattle.xr_verify.proofs.WholeTrees.{root_rules, sound_of}
-use Rattle.xr_blocks.specs.Tree.{least_of_root}
+use Rattle.xr_verify.proofs.ChildLemmas.{sound_used}
+use Rattle.xr_verify.proofs.VisitedLemmas.{not_ok}
+use Rattle.xr_verify.proofs.WholeRowLemmas.{AreKnown}
+use Rattle.xr_verify.proofs.WholeTreeLemmas.{root_rules, sound_of}
+use Rattle.xr_block.specs.Tree.{least_of_root}
 use Rattle.xr_verify.proofs.visit.visit_root.Goals as goal
 
 pub returns-in_err-in_pool-clause-right : goal.returns-in_err-in_pool-clause-right

@@ -1,6 +1,6 @@
 use Rattle.std.proofs.Common.{◌<◌, List, ℕ, subst, sym}
-use Rattle.xr_blocks.specs.Overlay.{Blocks, block_at, pool_size}
-use Rattle.xr_change.proofs.Sealing.{block_reads, within_draft}
+use Rattle.xr_pool.specs.Overlay.{Blocks, block_at, pool_size}
+use Rattle.xr_change.proofs.SealLemmas.{block_reads, within_draft}
 use Rattle.xr_change.specs.Draft.{ReadsAs}
 use Rattle.xr_change.proofs.draft.Draft.block.Goals as goal
 

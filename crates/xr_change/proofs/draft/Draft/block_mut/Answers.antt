@@ -1,4 +1,4 @@
-use Rattle.xr_change.proofs.Sealing.{within_draft}
+use Rattle.xr_change.proofs.SealLemmas.{within_draft}
 use Rattle.xr_change.proofs.draft.Draft.block_mut.Goals as goal
 
 pub note-requires-clause-within : goal.note-requires-clause-within

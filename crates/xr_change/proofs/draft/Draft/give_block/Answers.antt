@@ -1,4 +1,4 @@
-use Rattle.xr_change.proofs.Sealing.{within_draft}
+use Rattle.xr_change.proofs.SealLemmas.{within_draft}
 use Rattle.xr_change.proofs.draft.Draft.give_block.Goals as goal
 
 pub give_block-requires : goal.give_block-requires

@@ -1,4 +1,4 @@
-use Rattle.xr_change.proofs.Sealing.{within_draft}
+use Rattle.xr_change.proofs.SealLemmas.{within_draft}
 use Rattle.xr_change.proofs.draft.Draft.header.Goals as goal
 
 pub new-requires : goal.new-requires

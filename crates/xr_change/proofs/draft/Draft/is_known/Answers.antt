@@ -1,5 +1,5 @@
 use Rattle.std.proofs.Common.{subst}
-use Rattle.xr_change.proofs.Sealing.{known_sealed, overlay_known}
+use Rattle.xr_change.proofs.SealLemmas.{known_sealed, overlay_known}
 use Rattle.xr_change.specs.Alters.{AreKnown}
 use Rattle.xr_change.proofs.draft.Draft.is_known.Goals as goal
 

@@ -1,5 +1,5 @@
 use Rattle.std.proofs.Common.{ℕ, List, ap, ◌∙◌}
-use Rattle.xr_change.proofs.Sealing.{none_edited}
+use Rattle.xr_change.proofs.SealLemmas.{none_edited}
 use Rattle.xr_change.specs.Draft.{all_sealed}
 use Rattle.xr_change.proofs.draft.Draft.of.Goals as goal
 

@@ -1,7 +1,7 @@
 use Rattle.std.proofs.Common.{◌≡◌, ◌<◌, ◌≤◌, true, false, refl, sym, ap, subst, ◌∙◌, arith}
-use Rattle.xr_blocks.specs.Overlay.{Blocks, free_count, pool_size}
-use Rattle.xr_change.proofs.Sealing.{sealed_size}
-use Rattle.xr_change.proofs.Written.{same_count, some_free}
+use Rattle.xr_pool.specs.Overlay.{Blocks, free_count, pool_size}
+use Rattle.xr_change.proofs.SealLemmas.{sealed_size}
+use Rattle.xr_change.proofs.WriteLemmas.{same_count, some_free}
 use Rattle.xr_change.specs.Draft.{all_sealed}
 use Rattle.xr_change.proofs.draft.Draft.take_spare.Goals as goal
 

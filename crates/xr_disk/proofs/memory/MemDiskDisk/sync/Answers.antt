@@ -1,5 +1,5 @@
 use Rattle.std.proofs.Common.{refl, arith}
-use Rattle.xr_disk.proofs.MemoryCalls.{failed_call}
+use Rattle.xr_disk.proofs.MemoryCallLemmas.{failed_call}
 use Rattle.xr_disk.proofs.memory.MemDiskDisk.sync.Goals as goal
 
 pub returns-in-Stops-clause-call : goal.returns-in-Stops-clause-call

@@ -1,5 +1,5 @@
 use Rattle.std.proofs.Common.{arith, refl, true, false}
-use Rattle.xr_disk.proofs.MemoryCalls.{event_call, pushed_write, all_within, write_history, write_tears}
+use Rattle.xr_disk.proofs.MemoryCallLemmas.{event_call, pushed_write, all_within, write_history, write_tears}
 use Rattle.xr_disk.proofs.memory.MemDiskDisk.write.Goals as goal
 
 pub invariant_of-self-clause-within : goal.invariant_of-self-clause-within

@@ -1,7 +1,7 @@
 use Rattle.std.proofs.Common.{◌≡◌, ◌-◌, ◌+◌, ◌∙◌, arith, ap, length, refl, sym}
 use Rattle.std.proofs.lemmas.Bool.{false≢true}
 use Rattle.xr_record.specs.Packing.{Packed, room_in}
-use Rattle.xr_record.proofs.Pushing.{body_pushed}
+use Rattle.xr_record.proofs.PushLemmas.{body_pushed}
 use Rattle.xr_record.proofs.packer.Packer.push.Goals as goal
 
 pub returns : goal.returns

@@ -1,5 +1,5 @@
 use Rattle.std.proofs.Common.{refl}
-use Rattle.xr_record.proofs.Streaming.{reads_nothing}
+use Rattle.xr_record.proofs.StreamLemmas.{reads_nothing}
 use Rattle.xr_record.proofs.reader.Reader.new.Goals as goal
 
 pub returns : goal.returns

@@ -1,6 +1,6 @@
 -- A run more in both trees.
-use Rattle.xr_space.proofs.Frames.{then_step}
-use Rattle.xr_space.proofs.Pairs.{gain_pairs}
+use Rattle.xr_space.proofs.FrameLemmas.{then_step}
+use Rattle.xr_space.proofs.PairLemmas.{gain_pairs}
 use Rattle.xr_space.proofs.space.Space.add_run.Goals as goal
 
 pub returns-clause-step : goal.returns-clause-step

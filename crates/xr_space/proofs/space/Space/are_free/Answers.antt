@@ -3,11 +3,11 @@ use Rattle.std.proofs.Common.{◌≡◌, ◌+◌, true, false, sym, subst, ⊎_e
 use Rattle.std.proofs.lemmas.Bool.{cases_Bool}
 use Rattle.std.proofs.lemmas.Bool.Decides.{nat_tests}
 use Rattle.std.specs.Ordering.{is_lt}
-use Rattle.xr_blocks.specs.declared.span.Span.{Span}
-use Rattle.xr_blocks.specs.FreeRuns.{size_order}
-use Rattle.xr_blocks.specs.Spans.{span}
+use Rattle.xr_kinds.specs.declared.span.Span.{Span}
+use Rattle.xr_kinds.specs.FreeRuns.{size_order}
+use Rattle.xr_kinds.specs.Spans.{span}
 use Rattle.xr_space.specs.Space.{IsFreeRun}
-use Rattle.xr_space.proofs.FreeSets.{same_span}
+use Rattle.xr_space.proofs.FreeSetLemmas.{same_span}
 use Rattle.xr_space.proofs.space.Space.are_free.Goals as goal
 
 -- what is below the place behind a run, and not below the run, is the run

@@ -1,8 +1,8 @@
 -- The runs below the place in the order by size stand in both trees. The length goes first.
 use Rattle.std.proofs.Common.{◌≡◌, true, ◌+◌, ◌-◌, ◌*◌}
 use Rattle.std.specs.Ordering.{is_lt}
-use Rattle.xr_blocks.specs.declared.span.Span.{Span}
-use Rattle.xr_blocks.specs.FreeRuns.{size_order}
+use Rattle.xr_kinds.specs.declared.span.Span.{Span}
+use Rattle.xr_kinds.specs.FreeRuns.{size_order}
 use Rattle.xr_space.specs.Space.{IsFreeRun, IsSized}
 use Rattle.xr_space.proofs.space.Space.are_free.Given as goal
 

@@ -2,8 +2,8 @@
 use Rattle.std.proofs.Common.{◌≡◌, ◌<◌, ◌≤◌, refl, sym, subst, ⊎_elim, arith}
 use Rattle.std.proofs.lemmas.Bool.{cases_lt}
 use Rattle.xr_space.specs.Space.{IsFreeRun, IsSized}
-use Rattle.xr_space.proofs.FreeSets.{are_runs}
-use Rattle.xr_space.proofs.Joins.{same_start}
+use Rattle.xr_space.proofs.FreeSetLemmas.{are_runs}
+use Rattle.xr_space.proofs.JoinLemmas.{same_start}
 use Rattle.xr_space.proofs.space.Space.are_sized.Goals as goal
 
 pub loop-run-preserved : goal.loop-run-preserved

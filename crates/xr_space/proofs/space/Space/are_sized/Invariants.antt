@@ -1,6 +1,6 @@
 -- The runs that begin in front of the place stand in both trees.
 use Rattle.std.proofs.Common.{◌<◌, ◌-◌}
-use Rattle.xr_blocks.specs.declared.span.Span.{Span}
+use Rattle.xr_kinds.specs.declared.span.Span.{Span}
 use Rattle.xr_space.specs.Space.{IsFreeRun, IsSized}
 use Rattle.xr_space.proofs.space.Space.are_sized.Given as goal
 

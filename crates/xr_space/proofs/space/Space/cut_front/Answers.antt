@@ -1,10 +1,10 @@
 -- The front of the first free run is taken: all of it, or the rest stays.
 use Rattle.std.proofs.Common.{◌≡◌, ℕ, ◌+◌, ◌-◌, ◌≤◌, min, refl, ⊎_elim, arith}
 use Rattle.std.proofs.lemmas.Bool.Decides.{nat_tests}
-use Rattle.xr_blocks.specs.Spans.{span}
+use Rattle.xr_kinds.specs.Spans.{span}
 use Rattle.xr_space.specs.Space.{IsFreeRun}
-use Rattle.xr_space.proofs.FreeSets.{are_runs, cut, lost}
-use Rattle.xr_space.proofs.Joins.{part_fits}
+use Rattle.xr_space.proofs.FreeSetLemmas.{are_runs, cut, lost}
+use Rattle.xr_space.proofs.JoinLemmas.{part_fits}
 use Rattle.xr_space.proofs.space.Space.cut_front.Goals as goal
 
 at_most : (m n least : ℕ) → least ≡ min m n → least ≤ n

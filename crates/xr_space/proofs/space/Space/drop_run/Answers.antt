@@ -1,6 +1,6 @@
 -- A run less in both trees.
-use Rattle.xr_space.proofs.Frames.{then_step}
-use Rattle.xr_space.proofs.Pairs.{lose_pairs}
+use Rattle.xr_space.proofs.FrameLemmas.{then_step}
+use Rattle.xr_space.proofs.PairLemmas.{lose_pairs}
 use Rattle.xr_space.proofs.space.Space.drop_run.Goals as goal
 
 pub remove_by_size-requires-clause-held : goal.remove_by_size-requires-clause-held

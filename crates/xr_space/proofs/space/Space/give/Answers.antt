@@ -2,9 +2,9 @@
 use Rattle.std.proofs.Common.{ap}
 use Rattle.std.specs.Option.{is_some}
 use Rattle.xr_space.specs.Space.{IsFreeRun}
-use Rattle.xr_space.proofs.FreeSets.{are_runs}
-use Rattle.xr_space.proofs.Frames.{then_step}
-use Rattle.xr_space.proofs.Joins.{given_both, loose_both, loose_left, loose_right}
+use Rattle.xr_space.proofs.FreeSetLemmas.{are_runs}
+use Rattle.xr_space.proofs.FrameLemmas.{then_step}
+use Rattle.xr_space.proofs.JoinLemmas.{given_both, loose_both, loose_left, loose_right}
 use Rattle.xr_space.proofs.space.Space.give.Goals as goal
 
 pub join-requires-clause-loose : goal.join-requires-clause-loose

@@ -1,11 +1,11 @@
 -- The run that begins at the same block is the run itself, or else that one isn't free.
 use Rattle.std.proofs.Common.{ap, subst}
 use Rattle.std.proofs.lemmas.Bool.{eq-eqb, eqb-true}
-use Rattle.xr_blocks.specs.declared.span.Span.{Span}
-use Rattle.xr_blocks.specs.FreeRuns.{block_span}
+use Rattle.xr_kinds.specs.declared.span.Span.{Span}
+use Rattle.xr_kinds.specs.FreeRuns.{block_span}
 use Rattle.xr_space.specs.Space.{IsFreeRun}
-use Rattle.xr_space.proofs.FreeSets.{are_runs, same_span}
-use Rattle.xr_space.proofs.Joins.{same_start}
+use Rattle.xr_space.proofs.FreeSetLemmas.{are_runs, same_span}
+use Rattle.xr_space.proofs.JoinLemmas.{same_start}
 use Rattle.xr_space.proofs.space.Space.holds_by_block.Goals as goal
 
 pub returns-then-found-run : goal.returns-then-found-run

@@ -1,11 +1,11 @@
 -- A run that stands apart from the others is a record more by block.
 use Rattle.std.proofs.Common.{refl, arith}
-use Rattle.xr_blocks.specs.declared.free_runs.ByBlock.{ByBlock}
-use Rattle.xr_blocks.specs.FreeRuns.{block_form, block_span, by_block}
-use Rattle.xr_space.proofs.Frames.{block_step, sizes_stay}
-use Rattle.xr_space.proofs.RunRecords.{by_block_runs, inserted_records}
-use Rattle.xr_space.proofs.RunSets.{gains}
-use Rattle.xr_space.proofs.SmallTrees.{few_wanted}
+use Rattle.xr_kinds.specs.declared.free_runs.ByBlock.{ByBlock}
+use Rattle.xr_kinds.specs.FreeRuns.{block_form, block_span, by_block}
+use Rattle.xr_space.proofs.FrameLemmas.{block_step, sizes_stay}
+use Rattle.xr_space.proofs.RunRecordLemmas.{by_block_runs, inserted_records}
+use Rattle.xr_space.proofs.RunSetLemmas.{gains}
+use Rattle.xr_space.proofs.SmallTreeLemmas.{few_wanted}
 use Rattle.xr_space.proofs.space.Space.insert_by_block.Goals as goal
 
 pub insert-requires-clause-rules : goal.insert-requires-clause-rules

@@ -1,11 +1,11 @@
 -- A run that stands apart from the others is a record more by size.
 use Rattle.std.proofs.Common.{refl, arith}
-use Rattle.xr_blocks.specs.declared.free_runs.BySize.{BySize}
-use Rattle.xr_blocks.specs.FreeRuns.{size_form, size_span, by_size}
-use Rattle.xr_space.proofs.Frames.{blocks_stay, size_step}
-use Rattle.xr_space.proofs.RunRecords.{by_size_runs, inserted_records}
-use Rattle.xr_space.proofs.RunSets.{gains}
-use Rattle.xr_space.proofs.SmallTrees.{few_wanted}
+use Rattle.xr_kinds.specs.declared.free_runs.BySize.{BySize}
+use Rattle.xr_kinds.specs.FreeRuns.{size_form, size_span, by_size}
+use Rattle.xr_space.proofs.FrameLemmas.{blocks_stay, size_step}
+use Rattle.xr_space.proofs.RunRecordLemmas.{by_size_runs, inserted_records}
+use Rattle.xr_space.proofs.RunSetLemmas.{gains}
+use Rattle.xr_space.proofs.SmallTreeLemmas.{few_wanted}
 use Rattle.xr_space.proofs.space.Space.insert_by_size.Goals as goal
 
 pub insert-requires-clause-rules : goal.insert-requires-clause-rules

@@ -1,9 +1,9 @@
 -- A run is given back by itself, or as one with the free run that touches it.
 use Rattle.std.proofs.Common.{◌+◌}
-use Rattle.xr_blocks.specs.Spans.{span}
+use Rattle.xr_kinds.specs.Spans.{span}
 use Rattle.xr_space.specs.Space.{IsFreeRun}
-use Rattle.xr_space.proofs.FreeSets.{are_runs, gained, grown}
-use Rattle.xr_space.proofs.Joins.{alone_fits, joined_each, joined_fits}
+use Rattle.xr_space.proofs.FreeSetLemmas.{are_runs, gained, grown}
+use Rattle.xr_space.proofs.JoinLemmas.{alone_fits, joined_each, joined_fits}
 use Rattle.xr_space.proofs.space.Space.join.Goals as goal
 
 pub add_run-requires-clause-fits : goal.add_run-requires-clause-fits

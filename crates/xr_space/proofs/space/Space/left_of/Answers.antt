@@ -1,6 +1,6 @@
 -- The last run that begins up to the place ends elsewhere, so none ends there.
 use Rattle.std.proofs.Common.{sym, ◌∙◌}
-use Rattle.xr_space.proofs.Beside.{none_left}
+use Rattle.xr_space.proofs.BesideLemmas.{none_left}
 use Rattle.xr_space.proofs.space.Space.left_of.Goals as goal
 
 pub returns-else-end-from-clause-none : goal.returns-else-end-from-clause-none

@@ -1,9 +1,9 @@
 -- A run that is free is a record less by block.
 use Rattle.std.proofs.Common.{refl, arith}
-use Rattle.xr_blocks.specs.FreeRuns.{block_form, block_span, by_block}
-use Rattle.xr_space.proofs.Frames.{block_step, sizes_stay}
-use Rattle.xr_space.proofs.RunRecords.{by_block_runs}
-use Rattle.xr_space.proofs.RunSets.{loses}
+use Rattle.xr_kinds.specs.FreeRuns.{block_form, block_span, by_block}
+use Rattle.xr_space.proofs.FrameLemmas.{block_step, sizes_stay}
+use Rattle.xr_space.proofs.RunRecordLemmas.{by_block_runs}
+use Rattle.xr_space.proofs.RunSetLemmas.{loses}
 use Rattle.xr_space.proofs.space.Space.remove_by_block.Goals as goal
 
 pub returns-clause-step : goal.returns-clause-step

@@ -1,9 +1,9 @@
 -- A run is a record less by size.
 use Rattle.std.proofs.Common.{refl, arith}
-use Rattle.xr_blocks.specs.FreeRuns.{size_form, size_span, by_size}
-use Rattle.xr_space.proofs.Frames.{blocks_stay, size_step}
-use Rattle.xr_space.proofs.RunRecords.{by_size_runs}
-use Rattle.xr_space.proofs.RunSets.{loses}
+use Rattle.xr_kinds.specs.FreeRuns.{size_form, size_span, by_size}
+use Rattle.xr_space.proofs.FrameLemmas.{blocks_stay, size_step}
+use Rattle.xr_space.proofs.RunRecordLemmas.{by_size_runs}
+use Rattle.xr_space.proofs.RunSetLemmas.{loses}
 use Rattle.xr_space.proofs.space.Space.remove_by_size.Goals as goal
 
 pub returns-clause-step : goal.returns-clause-step

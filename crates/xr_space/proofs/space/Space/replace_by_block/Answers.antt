@@ -1,10 +1,10 @@
 -- A run is in the place of one that it meets or touches, by block.
 use Rattle.std.proofs.Common.{◌≡◌, refl, ap, arith}
-use Rattle.xr_blocks.specs.declared.free_runs.ByBlock.{ByBlock}
-use Rattle.xr_blocks.specs.FreeRuns.{block_form, block_span, by_block}
-use Rattle.xr_space.proofs.Frames.{block_step, sizes_stay}
-use Rattle.xr_space.proofs.RunRecords.{by_block_runs, replaced_records}
-use Rattle.xr_space.proofs.RunSets.{swaps}
+use Rattle.xr_kinds.specs.declared.free_runs.ByBlock.{ByBlock}
+use Rattle.xr_kinds.specs.FreeRuns.{block_form, block_span, by_block}
+use Rattle.xr_space.proofs.FrameLemmas.{block_step, sizes_stay}
+use Rattle.xr_space.proofs.RunRecordLemmas.{by_block_runs, replaced_records}
+use Rattle.xr_space.proofs.RunSetLemmas.{swaps}
 use Rattle.xr_space.proofs.space.Space.replace_by_block.Goals as goal
 
 pub replace-requires-clause-rules : goal.replace-requires-clause-rules

@@ -1,7 +1,7 @@
 -- A run in the place of another in both trees.
 use Rattle.xr_space.specs.Space.{IsSized}
-use Rattle.xr_space.proofs.Frames.{then_step}
-use Rattle.xr_space.proofs.Pairs.{lose_gain, swap_pairs}
+use Rattle.xr_space.proofs.FrameLemmas.{then_step}
+use Rattle.xr_space.proofs.PairLemmas.{lose_gain, swap_pairs}
 use Rattle.xr_space.proofs.space.Space.swap_run.Goals as goal
 
 pub remove_by_size-requires-clause-held : goal.remove_by_size-requires-clause-held

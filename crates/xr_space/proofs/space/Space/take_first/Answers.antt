@@ -1,8 +1,8 @@
 -- There is no first run exactly where no block is free.
 use Rattle.std.proofs.Common.{refl, arith}
-use Rattle.xr_blocks.specs.SpanLaws.{group_run}
-use Rattle.xr_space.proofs.FreeSets.{are_runs}
-use Rattle.xr_space.proofs.Frames.{no_change}
+use Rattle.xr_kinds.specs.SpanLaws.{group_run}
+use Rattle.xr_space.proofs.FreeSetLemmas.{are_runs}
+use Rattle.xr_space.proofs.FrameLemmas.{no_change}
 use Rattle.xr_space.proofs.space.Space.take_first.Goals as goal
 
 pub returns-in-None-clause-none : goal.returns-in-None-clause-none

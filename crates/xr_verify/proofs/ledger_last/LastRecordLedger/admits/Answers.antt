@@ -1,5 +1,5 @@
 use Rattle.std.proofs.Common.{refl, ◌∙◌, sym}
-use Rattle.xr_verify.proofs.Ledgers.{agrees_after, none_before}
+use Rattle.xr_verify.proofs.LastLedgerLemmas.{agrees_after, none_before}
 use Rattle.xr_verify.proofs.ledger_last.LastRecordLedger.admits.Goals as goal
 
 pub returns-in-Some : goal.returns-in-Some

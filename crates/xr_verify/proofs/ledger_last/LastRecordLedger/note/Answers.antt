@@ -1,5 +1,5 @@
 use Rattle.std.proofs.Common.{None, sym, ◌∷◌, []}
-use Rattle.xr_verify.proofs.Lasts.{last_or-append}
+use Rattle.xr_verify.proofs.LastLemmas.{last_or-append}
 use Rattle.xr_verify.proofs.ledger_last.LastRecordLedger.note.Goals as goal
 
 pub returns : goal.returns

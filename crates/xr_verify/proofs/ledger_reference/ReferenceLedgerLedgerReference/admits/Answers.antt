@@ -1,5 +1,5 @@
 use Rattle.std.proofs.Common.{◌∙◌, sym}
-use Rattle.xr_verify.proofs.SharedRuns.{shared_agrees}
+use Rattle.xr_verify.proofs.SharedRunLemmas.{shared_agrees}
 use Rattle.xr_verify.proofs.ledger_reference.ReferenceLedgerLedgerReference.admits.Goals as goal
 
 pub returns-then-agrees_after : goal.returns-then-agrees_after

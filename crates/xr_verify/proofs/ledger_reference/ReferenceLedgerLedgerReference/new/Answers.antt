@@ -1,6 +1,6 @@
 use Rattle.std.proofs.Common.{[], List, ℕ, refl, subst, sym}
-use Rattle.xr_verify.proofs.Runs.{holds_none}
-use Rattle.xr_blocks.specs.Reference.{reference_span}
+use Rattle.xr_verify.proofs.RunBitLemmas.{holds_none}
+use Rattle.xr_kinds.specs.Reference.{reference_span}
 use Rattle.xr_verify.specs.RunBits.{HoldsRuns}
 use Rattle.xr_verify.proofs.ledger_reference.ReferenceLedgerLedgerReference.new.Goals as goal
 

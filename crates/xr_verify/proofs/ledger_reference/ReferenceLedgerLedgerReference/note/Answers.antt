@@ -1,7 +1,7 @@
 use Rattle.std.proofs.Common.{[], ◌∷◌, None, sym}
-use Rattle.xr_verify.proofs.Lasts.{last_or-append}
-use Rattle.xr_verify.proofs.Runs.{holds_more}
-use Rattle.xr_blocks.specs.Reference.{reference_span}
+use Rattle.xr_verify.proofs.LastLemmas.{last_or-append}
+use Rattle.xr_verify.proofs.RunBitLemmas.{holds_more}
+use Rattle.xr_kinds.specs.Reference.{reference_span}
 use Rattle.xr_verify.proofs.ledger_reference.ReferenceLedgerLedgerReference.note.Goals as goal
 
 pub returns : goal.returns

@@ -1,6 +1,6 @@
 use Rattle.std.proofs.Common.{◌≡◌, ◌∙◌, ℕ, ap, arith, get_or}
 use Rattle.std.proofs.lemmas.Bool.{lt-ltb, ltb-true}
-use Rattle.xr_verify.proofs.OwnedLines.{owned_agrees}
+use Rattle.xr_verify.proofs.OwnedLineLemmas.{owned_agrees}
 use Rattle.xr_verify.specs.OwnedRuns.{line_of}
 use Rattle.xr_verify.proofs.ledger_reverse.ReverseLedgerLedgerReverse.admits.Goals as goal
 

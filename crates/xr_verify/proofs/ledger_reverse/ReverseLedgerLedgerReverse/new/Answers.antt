@@ -1,4 +1,4 @@
-use Rattle.xr_verify.proofs.OwnedLines.{ends_none}
+use Rattle.xr_verify.proofs.OwnedLineLemmas.{ends_none}
 use Rattle.xr_verify.proofs.ledger_reverse.ReverseLedgerLedgerReverse.new.Goals as goal
 
 pub returns : goal.returns

@@ -1,5 +1,5 @@
 use Rattle.std.proofs.Common.{refl}
-use Rattle.xr_verify.proofs.OwnedLines.{ends_more}
+use Rattle.xr_verify.proofs.OwnedLineLemmas.{ends_more}
 use Rattle.xr_verify.proofs.ledger_reverse.ReverseLedgerLedgerReverse.note.Goals as goal
 
 pub returns : goal.returns

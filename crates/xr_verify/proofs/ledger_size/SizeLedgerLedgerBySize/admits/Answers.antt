@@ -1,4 +1,4 @@
-use Rattle.xr_verify.proofs.Runs.{size_agrees}
+use Rattle.xr_verify.proofs.RunBitLemmas.{size_agrees}
 use Rattle.xr_verify.proofs.ledger_size.SizeLedgerLedgerBySize.admits.Goals as goal
 
 pub returns : goal.returns

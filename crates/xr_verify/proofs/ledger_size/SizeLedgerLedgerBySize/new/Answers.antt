@@ -1,6 +1,6 @@
 use Rattle.std.proofs.Common.{[], List, ℕ, subst, sym}
-use Rattle.xr_verify.proofs.Runs.{holds_none}
-use Rattle.xr_blocks.specs.FreeRuns.{size_span}
+use Rattle.xr_verify.proofs.RunBitLemmas.{holds_none}
+use Rattle.xr_kinds.specs.FreeRuns.{size_span}
 use Rattle.xr_verify.specs.RunBits.{HoldsRuns}
 use Rattle.xr_verify.proofs.ledger_size.SizeLedgerLedgerBySize.new.Goals as goal
 

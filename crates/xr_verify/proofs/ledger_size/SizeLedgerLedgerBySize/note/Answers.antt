@@ -1,5 +1,5 @@
-use Rattle.xr_verify.proofs.Runs.{holds_more}
-use Rattle.xr_blocks.specs.FreeRuns.{size_span}
+use Rattle.xr_verify.proofs.RunBitLemmas.{holds_more}
+use Rattle.xr_kinds.specs.FreeRuns.{size_span}
 use Rattle.xr_verify.proofs.ledger_size.SizeLedgerLedgerBySize.note.Goals as goal
 
 pub returns : goal.returns

@@ -1,9 +1,9 @@
 use Rattle.std.proofs.Common.{◌∙◌, ap, sym, subst, None, Option}
 use Rattle.std.specs.List.{last_or}
-use Rattle.xr_verify.proofs.Lasts.{last_or-append}
-use Rattle.xr_verify.proofs.Passing.{climbs_if}
+use Rattle.xr_verify.proofs.LastLemmas.{last_or-append}
+use Rattle.xr_verify.proofs.PassLemmas.{climbs_if}
 use Rattle.xr_verify.specs.Ledger.{Climb}
-use Rattle.xr_blocks.specs.TreeBlock.{records_in}
+use Rattle.xr_block.specs.TreeBlock.{records_in}
 use Rattle.xr_verify.proofs.passed.Passed.pass.Goals as goal
 
 pub returns-then-not-climb-clause-rules : goal.returns-then-not-climb-clause-rules

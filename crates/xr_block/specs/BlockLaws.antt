@@ -1,0 +1,200 @@
+-- What is read back from the blocks of a tree is what was written to them.
+use Rattle.std.proofs.Common.{◌≡◌, ℕ, suc, ◌+◌, ◌-◌, ◌*◌, ◌^◌, ◌<◌, ◌≤◌, Bool, true, false, if◌then◌else◌, Option, Some, None, List, [], ◌∷◌, ◌++◌, length, take, drop, replicate, refl, sym, ap, ◌∙◌, arith}
+use Rattle.std.proofs.Math.Nat.{mul-le-mul_right}
+use Rattle.std.proofs.Math.Seq.{drop-append-add}
+use Rattle.std.proofs.lemmas.List.{append_assoc, drop_at, drop-drop, length-append, length-replicate, length-take-le, take_at}
+use Rattle.std.specs.List.{All, flat_map}
+use Rattle.byteorder.specs.Endian.{big_bytes, big_number, little_bytes}
+use Rattle.byteorder.specs.Numbers.{big_from-take, big_number-reads_back, length-bytes_high_first}
+use Rattle.xr_base.specs.Checksum.{checksum_of, without_four}
+use Rattle.xr_base.specs.Image.{overlaid, part}
+use Rattle.xr_base.specs.ImageLaws.{length-overlaid, part_below}
+use Rattle.xr_base.specs.declared.geometry.TheConstants.{BLOCK_BYTES}
+use Rattle.xr_kinds.specs.BigEndianLaws.{drop-bytes, reads_alone}
+use Rattle.xr_kinds.specs.Form.{Form, IsForm, header_size, key_size, pointer_size}
+use Rattle.xr_block.specs.TreeBlock.{Entry, Place, Site, count_in, entries_from, entries_in, filled, header, leaf_bytes, neighbour, node_bytes, node_items, records_from, records_in, sum_place, summed, tree_block}
+
+-- the fields of a header fill it, with the checksum and what is behind it
+pub fields_fill : (long : Bool) → (let pointer : ℕ = if long then 8 else 4 in let size : ℕ = if long then 72 else 56 in let sum : ℕ = if long then 64 else 52 in
+    (40 + 3 * pointer + (size - sum) ≡ size) × (8 ≤ sum) × (sum + 4 ≤ size) × (size ≤ 72))
+fields_fill true = (refl, omega arith, omega arith, omega arith)
+fields_fill false = (refl, omega arith, omega arith, omega arith)
+
+pub length-neighbour : (width : ℕ) (o : Option ℕ) → length (neighbour width o) ≡ width
+length-neighbour width None = length-replicate width 255
+length-neighbour width (Some n) = length-bytes_high_first width n
+
+pub length-header : {X : Type 0} (form : Form X) (site : Site) (place : Place) (count : ℕ) → length site.uuid ≡ 16
+    → length (header form site place count) ≡ header_size form
+unfolding header
+length-header form site place count whole =
+    let fill = fields_fill form.long in
+    simp length-append
+    (omega (
+      arith,
+      fill,
+      whole,
+      length-neighbour (pointer_size form) place.left,
+      length-neighbour (pointer_size form) place.right,
+      length-bytes_high_first (pointer_size form) site.owner,
+      length-replicate {A = ℕ} (header_size form - sum_place form) 0,
+    ))
+
+pub length-filled : (n : ℕ) (bytes : List ℕ) → length bytes ≤ n → length (filled n bytes) ≡ n
+length-filled n bytes fits = length-append bytes (replicate (n - length bytes) 0) ∙ omega (arith, length-replicate {A = ℕ} (n - length bytes) 0)
+
+-- what stands behind bytes that were laid over
+pub drop_overlaid : (at k : ℕ) (bytes image : List ℕ) → at + length bytes ≤ k → at + length bytes ≤ length image
+    → drop k (overlaid at bytes image) ≡ drop k image
+drop_overlaid at k bytes image behind fits =
+    let front : List ℕ = take at image ++ bytes in
+    let long : length front ≡ at + length bytes = length-append (take at image) bytes ∙ omega (arith, length-take-le at image (omega arith)) in
+    let j : ℕ = k - (at + length bytes) in
+    let place : k ≡ length front + j = omega arith in
+    ap (λ (m : ℕ). drop m (overlaid at bytes image)) place
+    ∙ drop-append-add front (drop (at + length bytes) image) j
+    ∙ drop-drop j (at + length bytes) image
+    ∙ ap (λ (m : ℕ). drop m image) (let e : at + length bytes + j ≡ k = omega arith in e)
+
+module _ {X : Type 0} (form : Form X) (site : Site) (place : Place) (count : ℕ) (items : List ℕ) (whole : length site.uuid ≡ 16) (room : header_size form + length items ≤ BLOCK_BYTES) where
+  fields : List ℕ
+  fields = header form site place count ++ items
+
+  length-fields : length fields ≤ BLOCK_BYTES
+  unfolding fields
+  length-fields = omega (arith, length-append (header form site place count) items, length-header form site place count whole)
+
+  pub length-tree_block : length (tree_block form site place count items) ≡ BLOCK_BYTES
+  unfolding tree_block fields
+  length-tree_block =
+      let fill = fields_fill form.long in
+      let long = length-filled BLOCK_BYTES fields length-fields in
+      let sum : List ℕ = little_bytes 4 (checksum_of (without_four (sum_place form) (filled BLOCK_BYTES fields))) in
+      length-overlaid (sum_place form) sum (filled BLOCK_BYTES fields) (omega (arith, fill, long)) ∙ long
+
+  -- the items stand behind the header
+  pub items_in_block : drop (header_size form) (tree_block form site place count items) ≡ items ++ replicate (BLOCK_BYTES - length (header form site place count ++ items)) 0
+  unfolding tree_block fields
+  items_in_block =
+      let fill = fields_fill form.long in
+      let long = length-filled BLOCK_BYTES fields length-fields in
+      let sum : List ℕ = little_bytes 4 (checksum_of (without_four (sum_place form) (filled BLOCK_BYTES fields))) in
+      let zeros : List ℕ = replicate (BLOCK_BYTES - length fields) 0 in
+      drop_overlaid (sum_place form) (header_size form) sum (filled BLOCK_BYTES fields) (omega (arith, fill)) (omega (arith, fill, long))
+      ∙ ap (drop (header_size form)) (append_assoc (header form site place count) items zeros)
+      ∙ drop_at (header form site place count) (items ++ zeros) (header_size form) (length-header form site place count whole)
+
+  pub count_in_block : count < 2 ^ 16 → count_in (tree_block form site place count items) ≡ count
+  unfolding tree_block fields header
+  count_in_block small =
+      let fill = fields_fill form.long in
+      let long = length-filled BLOCK_BYTES fields length-fields in
+      let sum : List ℕ = little_bytes 4 (checksum_of (without_four (sum_place form) (filled BLOCK_BYTES fields))) in
+      let field : part 6 2 (tree_block form site place count items) ≡ big_bytes 2 count =
+      part_below (sum_place form) 2 6 sum (filled BLOCK_BYTES fields) (omega (arith, fill)) (omega (arith, fill, long)) in
+      sym (big_from-take 0 2 2 (drop 6 (tree_block form site place count items)) (omega arith))
+      ∙ ap (big_number 2) field ∙ reads_alone 2 count small
+
+-- a sum stands over all bytes but its own
+pub summed_same : (at : ℕ) (xs ys : List ℕ) → take at xs ≡ take at ys → drop (at + 4) xs ≡ drop (at + 4) ys → summed at xs ≡ summed at ys
+summed_same at xs ys front behind = rw (front, behind) refl
+
+-- bytes with the right sum are a tree's block where they are its fields, items and zeros beside the sum
+pub block_is : {X : Type 0} (form : Form X) (site : Site) (place : Place) (count : ℕ) (items bytes : List ℕ) → bytes ≡ summed (sum_place form) bytes
+    → (let laid = filled BLOCK_BYTES (header form site place count ++ items) in
+    (take (sum_place form) bytes ≡ take (sum_place form) laid) × (drop (sum_place form + 4) bytes ≡ drop (sum_place form + 4) laid))
+    → bytes ≡ tree_block form site place count items
+unfolding tree_block
+block_is form site place count items bytes sum same =
+    sum ∙ summed_same (sum_place form) bytes (filled BLOCK_BYTES (header form site place count ++ items)) same.0 same.1
+
+-- records are read back one after the other
+pub records_back : {X : Type 0} (form : Form X) (laws : IsForm form) (records : List X) (rest : List ℕ) → All (λ (r : X). form.is_valid r ≡ true) records
+    → records_from form (length records) (flat_map form.bytes_of records ++ rest) ≡ records
+unfolding records_from
+records_back form laws [] rest valid = refl
+records_back form laws (r ∷ rs) rest valid =
+    let behind : List ℕ = flat_map form.bytes_of rs ++ rest in
+    let split : flat_map form.bytes_of (r ∷ rs) ++ rest ≡ form.bytes_of r ++ behind = append_assoc (form.bytes_of r) (flat_map form.bytes_of rs) rest in
+    let front : take form.size (form.bytes_of r ++ behind) ≡ form.bytes_of r = take_at (form.bytes_of r) behind form.size (laws.sized r) in
+    let next : drop form.size (form.bytes_of r ++ behind) ≡ behind = drop_at (form.bytes_of r) behind form.size (laws.sized r) in
+    let first : form.taken (form.bytes_of r) ≡ Some r = laws.takes_back r (valid 0 r (omega arith)) in
+    let others : records_from form (length rs) behind ≡ rs = records_back form laws rs rest (λ k d within. valid (suc k) d (omega arith)) in
+    rw (split, front, first, next, others) refl
+
+pub length-items : {I : Type 0} (bytes_of : I → List ℕ) (size : ℕ) (items : List I) → ((i : I) → length (bytes_of i) ≡ size)
+    → length (flat_map bytes_of items) ≡ length items * size
+length-items bytes_of size [] sized = omega arith
+length-items bytes_of size (i ∷ is) sized =
+    length-append (bytes_of i) (flat_map bytes_of is) ∙ omega (arith, sized i, length-items bytes_of size is sized)
+
+-- a leaf holds the records that were written
+pub records_of_leaf : {X : Type 0} (form : Form X) (laws : IsForm form) (site : Site) (place : Place) (records : List X) → length site.uuid ≡ 16
+    → length records ≤ form.leaf_max → All (λ (r : X). form.is_valid r ≡ true) records → records_in form (leaf_bytes form site place records) ≡ records
+records_of_leaf form laws site place records whole few valid =
+    let items : List ℕ = flat_map form.bytes_of records in
+    let size : length records * form.size ≤ form.leaf_max * form.size = mul-le-mul_right form.size few in
+    let room : header_size form + length items ≤ BLOCK_BYTES = omega (arith, laws.leaf_fits, length-items form.bytes_of form.size records laws.sized) in
+    let count = count_in_block form site place (length records) items whole room (omega (arith, laws.leaf_few)) in
+    let found = items_in_block form site place (length records) items whole room in
+    rw (count, found) (records_back form laws records (replicate (BLOCK_BYTES - length (header form site place (length records) ++ items)) 0) valid)
+
+-- keys of one length, and children that fit their pointers
+abbrev pub AreEntries : {X : Type 0} → Form X → List Entry → Type 0
+AreEntries form entries = All (λ (e : Entry). (length e.key ≡ key_size form) × (e.child < 256 ^ pointer_size form)) entries
+
+-- keys and pointers are read back one after the other
+pub entries_back : {X : Type 0} (form : Form X) (entries : List Entry) (behind_keys behind_pointers : List ℕ) → AreEntries form entries
+    → entries_from (key_size form) (pointer_size form) (length entries) (flat_map (λ (e : Entry). e.key) entries ++ behind_keys)
+    (flat_map (λ (e : Entry). big_bytes (pointer_size form) e.child) entries ++ behind_pointers) ≡ entries
+unfolding entries_from
+entries_back form [] behind_keys behind_pointers all = refl
+entries_back form (e ∷ es) behind_keys behind_pointers all =
+    let good = all 0 e (omega arith) in
+    let pointer : List ℕ = big_bytes (pointer_size form) e.child in
+    let keys : List ℕ = flat_map (λ (entry : Entry). entry.key) es ++ behind_keys in
+    let pointers : List ℕ = flat_map (λ (entry : Entry). big_bytes (pointer_size form) entry.child) es ++ behind_pointers in
+    let split_keys : flat_map (λ (entry : Entry). entry.key) (e ∷ es) ++ behind_keys ≡ e.key ++ keys = append_assoc e.key _ behind_keys in
+    let split_pointers : flat_map (λ (entry : Entry). big_bytes (pointer_size form) entry.child) (e ∷ es) ++ behind_pointers ≡ pointer ++ pointers =
+    append_assoc pointer _ behind_pointers in
+    let key : take (key_size form) (e.key ++ keys) ≡ e.key = take_at e.key keys (key_size form) good.0 in
+    let next_keys : drop (key_size form) (e.key ++ keys) ≡ keys = drop_at e.key keys (key_size form) good.0 in
+    let child : big_number (pointer_size form) (pointer ++ pointers) ≡ e.child = big_number-reads_back (pointer_size form) e.child pointers good.1 in
+    let next_pointers : drop (pointer_size form) (pointer ++ pointers) ≡ pointers = drop-bytes (pointer_size form) e.child pointers in
+    let others = entries_back form es behind_keys behind_pointers (λ k d within. all (suc k) d (omega arith)) in
+    rw (split_keys, split_pointers, key, child, next_keys, next_pointers, others) refl
+
+length-keys : {X : Type 0} (form : Form X) (entries : List Entry) → AreEntries form entries
+    → length (flat_map (λ (e : Entry). e.key) entries) ≡ length entries * key_size form
+length-keys form [] all = omega arith
+length-keys form (e ∷ es) all =
+    let good = all 0 e (omega arith) in
+    length-append e.key (flat_map (λ (entry : Entry). entry.key) es)
+    ∙ omega (arith, good.0, length-keys form es (λ k d within. all (suc k) d (omega arith)))
+
+-- a node holds the keys and children that were written
+pub entries_of_node : {X : Type 0} (form : Form X) (laws : IsForm form) (site : Site) (place : Place) (entries : List Entry) → length site.uuid ≡ 16
+    → length entries ≤ form.node_max → AreEntries form entries → entries_in form (node_bytes form site place entries) ≡ entries
+entries_of_node form laws site place entries whole few all =
+    let keys : List ℕ = flat_map (λ (e : Entry). e.key) entries in
+    let pointers : List ℕ = flat_map (λ (e : Entry). big_bytes (pointer_size form) e.child) entries in
+    let key_room : ℕ = form.node_max * key_size form in
+    let size : length entries * key_size form ≤ key_room = mul-le-mul_right (key_size form) few in
+    let width : length entries * pointer_size form ≤ form.node_max * pointer_size form = mul-le-mul_right (pointer_size form) few in
+    let long_keys = length-keys form entries all in
+    let long_room : length (filled key_room keys) ≡ key_room = length-filled key_room keys (omega arith) in
+    let long_pointers : length pointers ≡ length entries * pointer_size form =
+    length-items (λ (e : Entry). big_bytes (pointer_size form) e.child) (pointer_size form) entries
+    (λ e. length-bytes_high_first (pointer_size form) e.child) in
+    let items : List ℕ = node_items form entries in
+    let room : header_size form + length items ≤ BLOCK_BYTES =
+    omega (arith, laws.node_fits, length-append (filled key_room keys) pointers, long_room, long_pointers, width) in
+    let count = count_in_block form site place (length entries) items whole room (omega (arith, laws.node_few)) in
+    let found = items_in_block form site place (length entries) items whole room in
+    let zeros : List ℕ = replicate (BLOCK_BYTES - length (header form site place (length entries) ++ items)) 0 in
+    let room_zeros : List ℕ = replicate (key_room - length keys) 0 in
+    let behind : drop key_room (items ++ zeros) ≡ pointers ++ zeros =
+    ap (drop key_room) (append_assoc (filled key_room keys) pointers zeros) ∙ drop_at (filled key_room keys) (pointers ++ zeros) key_room long_room in
+    let in_front : items ++ zeros ≡ keys ++ (room_zeros ++ (pointers ++ zeros)) =
+    append_assoc (filled key_room keys) pointers zeros ∙ append_assoc keys room_zeros (pointers ++ zeros) in
+    rw (count, found, behind, in_front) (entries_back form entries (room_zeros ++ (pointers ++ zeros)) zeros all)

@@ -1,0 +1,26 @@
+//! One block of a tree: its layout, how it is read, checked, searched and edited. And what blocks are a tree, with the frame
+//! that lets several trees share a pool. An edit leaves the checksum as it was, and a new block has none: `seal` writes it,
+//! once all edits of a block are done.
+#![tactic(auto)]
+
+pub mod bound;
+pub mod check;
+mod edit_leaf;
+mod edit_node;
+pub mod fault;
+mod header;
+mod items;
+pub mod key;
+mod laws;
+mod put_key;
+pub mod read;
+pub mod search;
+pub mod siblings;
+#[cfg(test)]
+mod tests;
+
+pub use edit_leaf::{build_leaf, cut_record, gather_leaf, put_record, set_record};
+pub use edit_node::{build_node, cut_entry, gather_node, put_entry, set_key};
+pub use header::{Header, put_number, seal, set_left};
+pub use laws::{changes_follow, other_trees_stay};
+pub use put_key::{put_key_of_leaf, put_key_of_node};

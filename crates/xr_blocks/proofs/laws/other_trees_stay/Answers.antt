@@ -1,5 +1,0 @@
-use Rattle.xr_blocks.specs.FrameLaws.{stays_tree}
-use Rattle.xr_blocks.proofs.laws.other_trees_stay.Goals as goal
-
-pub returns : goal.returns
-returns g c = stays_tree g.R.Record.form

@@ -1,7 +1,0 @@
-use Rattle.std.proofs.Common.{slice_index}
-use Rattle.xr_blocks.specs.Marks.{marked}
-use Rattle.xr_blocks.proofs.MarkLemmas.{IsBehind}
-use Rattle.xr_blocks.proofs.marks.place_of_mark.Given as goal
-
-abbrev pub invariant-loop-place : goal.invariant-loop-place
-invariant-loop-place l = IsBehind l.marks l.place l.left (slice_index (marked 0 l.marks) l.i)

@@ -1,0 +1,35 @@
+-- A record in the log has one body, and what that is.
+use Rattle.std.proofs.Common.{◌≡◌, ℕ, ◌+◌, ◌-◌, ◌≤◌, ◌*◌, ◌∙◌, List, length, take, drop, ◌++◌, sym, ap, subst, arith}
+use Rattle.xr_base.specs.Image.{part}
+use Rattle.xr_base.specs.declared.geometry.TheConstants.{SECTOR_BYTES}
+use Rattle.xr_record.specs.declared.head.Head.{Head}
+use Rattle.xr_base.specs.declared.layout.TheConstants.{MAX_BODY_BYTES}
+use Rattle.std.proofs.lemmas.List.{append_assoc, take_at}
+use Rattle.xr_record.specs.Record.{IsSealed, sectors_of, zeros}
+use Rattle.xr_record.specs.Unsealing.{body_in}
+use Rattle.xr_record.specs.SealedRecordLaws.{sealed_body}
+use Rattle.xr_commit.specs.LogRecords.{LogRecord, StandsAt, bytes_at}
+use Rattle.xr_commit.specs.Walking.{IsInLog}
+
+body_first : (bytes : List ℕ) (head : Head) (body : List ℕ) → IsSealed bytes head body → take head.len (body_in head.len bytes) ≡ body
+body_first bytes head body s =
+    let tail = zeros (512 * sectors_of (length body) - length body) in
+    ap (take head.len) (sealed_body bytes head body s ∙ append_assoc body tail s.rest) ∙ take_at body (tail ++ s.rest) head.len s.length_is
+
+-- the body of a sealed record is told by its bytes
+pub one_body : (bytes : List ℕ) (head : Head) (body other : List ℕ) → IsSealed bytes head body → IsSealed bytes head other → body ≡ other
+one_body bytes head body other s t = sym (body_first bytes head body s) ∙ body_first bytes head other t
+
+pub one_in : (log : List ℕ) (head found : Head) (body : List ℕ) (r : LogRecord) → StandsAt log head.lsn.sector (record { head = found; body = body })
+    → found ≡ r.head → IsInLog log head r → body ≡ r.body
+one_in log head found body r stands same is =
+    one_body (bytes_at log head.lsn.sector) r.head body r.body (subst (λ (h : Head). IsSealed (bytes_at log head.lsn.sector) h body) same stands.sealed) is.stands.sealed
+
+-- as the code takes it
+pub body_taken : (len : ℕ) (room : List ℕ) → take (512 + len - 512) (drop 512 room) ≡ part SECTOR_BYTES len room
+body_taken len room = ap (λ (n : ℕ). take n (drop 512 room)) (let e : 512 + len - 512 ≡ len = omega arith in e)
+
+-- and it isn't too long
+pub body_fits : (log : List ℕ) (head : Head) (r : LogRecord) (body : List ℕ) → IsInLog log head r → body ≡ r.body → length body ≤ MAX_BODY_BYTES
+body_fits log head r body is same =
+    let e = is.stands.sealed.length_is in let f = is.stands.sealed.good.fits in let g = ap length same in omega arith

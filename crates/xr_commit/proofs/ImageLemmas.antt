@@ -1,0 +1,76 @@
+-- From the log's bytes to the image in which they were seen.
+use Rattle.std.proofs.Common.{◌≡◌, ◌∙◌, ℕ, List, Option, Result, Ok, Err, sym, subst, inr}
+use Rattle.std.specs.Prelude.{IfOk, IfErr}
+use Rattle.xr_commit.specs.declared.fault.ScanFault.{ScanFault}
+use Rattle.xr_commit.specs.declared.fault.ScanFault.TheVariants.{Magic, Version, Length, Checksum, Place, Operation, ItemType, Size, Field, Header, DiskFault, NoMemory}
+use Rattle.xr_commit.specs.declared.live_stream.Live.{Live}
+use Rattle.xr_commit.specs.LiveStream.{IsLiveIn, IsLiveStream}
+use Rattle.xr_commit.specs.LogRecords.{HasSuper, log_of}
+use Rattle.xr_commit.specs.Refusals.{OrNoMemory, OrOutside, RefusesImage, RefusesLog}
+use Rattle.xr_commit.specs.Seen.{WasCounted}
+use Rattle.xr_disk.specs.Seen.{WasSeen}
+use Rattle.xr_commit.proofs.LayerLemmas.{not_of_disk}
+
+-- what was read of the image: its identifier and its log
+pub record WasRead (seen : Option (List ℕ)) (uuid log : List ℕ) : Type 0 where
+  pub superblock : WasSeen seen (λ image. HasSuper image uuid)
+  pub log_is : WasSeen seen (λ image. log ≡ log_of image)
+
+pub was_live : (seen : Option (List ℕ)) (uuid log : List ℕ) (result : Result Live ScanFault) → WasRead seen uuid log
+    → IfOk result (λ (live : Live). live.uuid ≡ uuid) → IfOk result (λ (live : Live). IsLiveIn uuid log live.heads.items live.entries.items)
+    → IfOk result (λ (live : Live). WasSeen seen (λ image. IsLiveStream image live))
+was_live seen uuid log (Ok live) read own is = λ image at. record {
+  superblock = subst (HasSuper image) (sym own) (read.superblock image at);
+  live_in = subst (λ (bytes : List ℕ). IsLiveIn live.uuid bytes live.heads.items live.entries.items) (read.log_is image at)
+      (subst (λ (u : List ℕ). IsLiveIn u log live.heads.items live.entries.items) (sym own) is);
+}
+was_live seen uuid log (Err fault) read own is = tt
+
+at_image : (seen : Option (List ℕ)) (uuid log : List ℕ) (fault : ScanFault) → WasRead seen uuid log → RefusesLog uuid log fault
+    → WasSeen seen (λ image. RefusesImage image fault)
+at_image seen uuid log fault read refused =
+    λ image at. inr (uuid, read.superblock image at, subst (λ (bytes : List ℕ). RefusesLog uuid bytes fault) (read.log_is image at) refused)
+
+of_image : (seen : Option (List ℕ)) (uuid log : List ℕ) (fault : ScanFault) → WasRead seen uuid log → OrNoMemory (RefusesLog uuid log) fault
+    → OrOutside (λ (f : ScanFault). WasSeen seen (λ image. RefusesImage image f)) fault
+of_image seen uuid log (Magic b) read refused = at_image seen uuid log (Magic b) read refused
+of_image seen uuid log (Version b) read refused = at_image seen uuid log (Version b) read refused
+of_image seen uuid log (Length b) read refused = at_image seen uuid log (Length b) read refused
+of_image seen uuid log (Checksum b) read refused = at_image seen uuid log (Checksum b) read refused
+of_image seen uuid log (Place b) read refused = at_image seen uuid log (Place b) read refused
+of_image seen uuid log (Operation b) read refused = at_image seen uuid log (Operation b) read refused
+of_image seen uuid log (ItemType b) read refused = at_image seen uuid log (ItemType b) read refused
+of_image seen uuid log (Size b) read refused = at_image seen uuid log (Size b) read refused
+of_image seen uuid log (Field b) read refused = at_image seen uuid log (Field b) read refused
+of_image seen uuid log (Header b) read refused = at_image seen uuid log (Header b) read refused
+of_image seen uuid log (DiskFault n) read refused = tt
+of_image seen uuid log NoMemory read refused = tt
+
+pub was_refused : (seen : Option (List ℕ)) (uuid log : List ℕ) (result : Result Live ScanFault) → WasRead seen uuid log → IfErr result (OrNoMemory (RefusesLog uuid log))
+    → IfErr result (OrOutside (λ (f : ScanFault). WasSeen seen (λ image. RefusesImage image f)))
+was_refused seen uuid log (Ok live) read refused = tt
+was_refused seen uuid log (Err fault) read refused = of_image seen uuid log fault read refused
+
+pub was_read : (seen after : Option (List ℕ)) (uuid log bytes : List ℕ) → after ≡ seen → bytes ≡ log → WasSeen seen (λ image. HasSuper image uuid) → WasSeen after (λ image. log ≡ log_of image)
+    → WasRead seen uuid bytes
+was_read seen after uuid log bytes same is superblock log_is = record { superblock = superblock; log_is = λ image at. is ∙ log_is image (same ∙ at) }
+
+-- the log's refusals are not the disk's
+uncounted : (uuid log : List ℕ) (before after : ℕ) (fault : ScanFault) → OrNoMemory (RefusesLog uuid log) fault → WasCounted before after fault
+uncounted uuid log before after (Magic b) refused = tt
+uncounted uuid log before after (Version b) refused = tt
+uncounted uuid log before after (Length b) refused = tt
+uncounted uuid log before after (Checksum b) refused = tt
+uncounted uuid log before after (Place b) refused = tt
+uncounted uuid log before after (Operation b) refused = tt
+uncounted uuid log before after (ItemType b) refused = tt
+uncounted uuid log before after (Size b) refused = tt
+uncounted uuid log before after (Field b) refused = tt
+uncounted uuid log before after (Header b) refused = tt
+uncounted uuid log before after (DiskFault n) refused = elim (not_of_disk uuid log n refused) [ ]
+uncounted uuid log before after NoMemory refused = tt
+
+pub was_uncounted : (uuid log : List ℕ) (before after : ℕ) (result : Result Live ScanFault) → IfErr result (OrNoMemory (RefusesLog uuid log))
+    → IfErr result (WasCounted before after)
+was_uncounted uuid log before after (Ok live) refused = tt
+was_uncounted uuid log before after (Err fault) refused = uncounted uuid log before after fault refused

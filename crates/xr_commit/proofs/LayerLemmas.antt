@@ -1,0 +1,81 @@
+-- The layers of refusals, put together: a later one is looked at where the earlier ones hold.
+use Rattle.std.proofs.Common.{◌≡◌, ◌∙◌, ℕ, List, All, refl, sym, subst, inl, inr}
+use Rattle.xr_record.specs.declared.entry.Entry.{Entry}
+use Rattle.xr_record.specs.declared.head.Head.{Head}
+use Rattle.xr_record.specs.declared.unsealing.SealFault.{SealFault}
+use Rattle.xr_record.specs.declared.unsealing.SealFault.TheVariants as seal
+use Rattle.xr_commit.specs.declared.fault.ScanFault.{ScanFault}
+use Rattle.xr_commit.specs.declared.fault.ScanFault.TheVariants.{DiskFault, Length}
+use Rattle.xr_commit.specs.Chain.{HasReserve}
+use Rattle.xr_commit.specs.declared.items.Breach.{Breach}
+use Rattle.xr_commit.specs.declared.items.Breach.TheVariants.{ItemType, Size, Field}
+use Rattle.xr_commit.specs.LiveItems.{HaveGood, fault_at}
+use Rattle.xr_commit.specs.Following.{AreOfChain}
+use Rattle.xr_commit.specs.Entries.{HasEntries}
+use Rattle.xr_commit.specs.LiveStream.{IsLiveIn}
+use Rattle.xr_commit.specs.LogRecords.{IsNewest, LogRecord, home_of}
+use Rattle.xr_commit.specs.Operations.{KeepsUnmounts}
+use Rattle.xr_commit.specs.Refusals.{BreaksChain, RefusesBodies, RefusesLog, LeadsNowhere, RefusesRecords, fault_of}
+
+-- the newest record, with its body
+abbrev pub top : (uuid log : List ℕ) (head : Head) → IsNewest uuid log head → LogRecord
+top uuid log head n = record { head = head; body = n.body }
+
+pub chain_refused : (uuid log : List ℕ) (head : Head) (fault : ScanFault) → (n : IsNewest uuid log head) → BreaksChain uuid log (top uuid log head n) fault
+    → RefusesLog uuid log fault
+chain_refused uuid log head fault n broken = inr (top uuid log head n, n.newest, inl broken)
+
+pub records_refused : (uuid log : List ℕ) (head : Head) (heads : List Head) (fault : ScanFault) → (n : IsNewest uuid log head)
+    → (c : AreOfChain uuid log (top uuid log head n) heads) → RefusesRecords uuid head c.records fault → RefusesLog uuid log fault
+records_refused uuid log head heads fault n c refused = inr (top uuid log head n, n.newest, inr (c.records, c.chain, refused))
+
+pub no_room : (uuid log : List ℕ) (head : Head) (heads hs : List Head) (n : IsNewest uuid log head) → (c : AreOfChain uuid log (top uuid log head n) heads) → hs ≡ heads
+    → (HasReserve head hs → ⊥) → RefusesLog uuid log (Length (home_of head))
+no_room uuid log head heads hs n c same none =
+    records_refused uuid log head heads (Length (home_of head)) n c (inl ((λ room. none (subst (HasReserve head) (sym (same ∙ c.heads_are)) room)), refl))
+
+pub bodies_refused : (uuid log : List ℕ) (head : Head) (heads hs : List Head) (fault : ScanFault) (n : IsNewest uuid log head) → (c : AreOfChain uuid log (top uuid log head n) heads)
+    → hs ≡ heads → HasReserve head hs → RefusesBodies uuid c.records fault → RefusesLog uuid log fault
+bodies_refused uuid log head heads hs fault n c same room refused =
+    records_refused uuid log head heads fault n c (inr (subst (HasReserve head) (same ∙ c.heads_are) room, refused))
+
+pub is_live : (uuid log : List ℕ) (head : Head) (heads hs : List Head) (entries : List Entry) (n : IsNewest uuid log head) → (c : AreOfChain uuid log (top uuid log head n) heads)
+    → hs ≡ heads → HasReserve head hs → All KeepsUnmounts c.records → HasEntries c.records entries → (last : ℕ) → HaveGood uuid 0 entries last → IsLiveIn uuid log heads entries
+is_live uuid log head heads hs entries n c same room unmounts said last items = record {
+  head = top uuid log head n;
+  newest = n.newest;
+  records = c.records;
+  chain = c.chain;
+  room = subst (HasReserve head) (same ∙ c.heads_are) room;
+  unmounts = unmounts;
+  heads_are = c.heads_are;
+  entries_are = said;
+  last = last;
+  items = items;
+}
+
+-- no layer names a fault of the disk
+not_of_seal : (broken : SealFault) (n : ℕ) → DiskFault n ≡ fault_of broken → ⊥
+not_of_seal (seal.Magic sector) n e = cc
+not_of_seal (seal.Version sector) n e = cc
+not_of_seal (seal.Length sector) n e = cc
+not_of_seal (seal.Checksum sector) n e = cc
+not_of_seal (seal.Place sector) n e = cc
+
+not_of_items : (breach : Breach) (block n : ℕ) → DiskFault n ≡ fault_at breach block → ⊥
+not_of_items ItemType block n e = cc
+not_of_items Size block n e = cc
+not_of_items Field block n e = cc
+
+not_of_chain : (uuid log : List ℕ) (head last : Head) (n : ℕ) → LeadsNowhere uuid log head last (DiskFault n) → ⊥
+not_of_chain uuid log head last n (inl named) = let e = named.1 in cc
+not_of_chain uuid log head last n (inr (inl lost)) = not_of_seal lost.0 n lost.2
+not_of_chain uuid log head last n (inr (inr astray)) = let e = astray.1 in cc
+
+pub not_of_disk : (uuid log : List ℕ) (n : ℕ) → RefusesLog uuid log (DiskFault n) → ⊥
+not_of_disk uuid log n (inl none) = let e = none.1 in cc
+not_of_disk uuid log n (inr (head, newest, inl broken)) = not_of_chain uuid log head.head broken.last.head n broken.nowhere
+not_of_disk uuid log n (inr (head, newest, inr (records, chain, inl cramped))) = let e = cramped.1 in cc
+not_of_disk uuid log n (inr (head, newest, inr (records, chain, inr (room, inl company)))) = let e = company.named in cc
+not_of_disk uuid log n (inr (head, newest, inr (records, chain, inr (room, inr (alone, inl wrong))))) = let e = wrong.named in cc
+not_of_disk uuid log n (inr (head, newest, inr (records, chain, inr (room, inr (alone, inr bad))))) = not_of_items bad.breach bad.block n bad.named

@@ -1,8 +1,0 @@
-use Rattle.std.proofs.Common.{◌∙◌, ap}
-use Rattle.xr_edit.specs.Edit.{sealed}
-use Rattle.xr_edit.proofs.LaidBlocks.{left_block}
-use Rattle.xr_edit.proofs.header.set_left.Goals as goal
-
-pub returns : goal.returns
-returns g c = λ site place count items identified is.
-    ap (sealed g.R.Record.form) c.link.ensures ∙ left_block g.R.Record.form site identified place count c.args.left items c.args.block.now c.told-block is

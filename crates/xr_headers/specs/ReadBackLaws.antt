@@ -1,0 +1,61 @@
+-- A field is read back from the block that it was written to.
+use Rattle.std.proofs.Common.{◌≡◌, ℕ, zero, suc, ◌+◌, ◌*◌, ◌<◌, ◌≤◌, List, [], ◌∷◌, ◌++◌, length, take, drop, get_or, refl, sym, ap, ◌∙◌, arith}
+use Rattle.std.proofs.lemmas.List.{length-append, take-take, drop-take, drop_at, drop-drop, ext_get_or}
+use Rattle.byteorder.specs.Endian.{big_number}
+use Rattle.byteorder.specs.Numbers.{big_number-reads_back}
+use Rattle.xr_base.specs.Image.{part}
+use Rattle.xr_headers.specs.Headers.{AreWords}
+use Rattle.xr_headers.specs.Padded.{numbers_in, words, with_crc, zero_padded}
+use Rattle.xr_headers.specs.PaddedLaws.{length-zero_padded}
+use Rattle.xr_headers.specs.PaddingLaws.{take-zero_padded}
+use Rattle.xr_headers.specs.ChecksumLaws.{take-with_crc}
+
+padded_at : (xs ys : List ℕ) → zero_padded (length xs) (xs ++ ys) ≡ xs
+unfolding zero_padded
+padded_at [] ys = refl
+padded_at (x ∷ xs) ys = ap (λ (rest : List ℕ). x ∷ rest) (padded_at xs ys)
+
+-- what stands between two parts of the fields, below the checksum
+pub read_back : (seal n at k : ℕ) (fields before field after : List ℕ) → fields ≡ before ++ field ++ after → length before ≡ at → length field ≡ k
+    → at + k ≤ seal → seal + 4 ≤ n → part at k (with_crc seal (zero_padded n fields)) ≡ field
+read_back seal n at k fields before field after is place long below fits =
+    let block : List ℕ = zero_padded n fields in
+    let room : seal + 4 ≤ length block = omega (arith, length-zero_padded n fields) in
+    let whole : length (before ++ field) ≡ at + k = omega (arith, length-append before field) in
+    let front : take (at + k) (with_crc seal block) ≡ before ++ field =
+    sym (take-take (at + k) seal (with_crc seal block) below) ∙ ap (take (at + k)) (take-with_crc seal block room) ∙ take-take (at + k) seal block below
+    ∙ take-zero_padded (at + k) n fields (omega arith) ∙ ap (zero_padded (at + k)) is
+    ∙ ap (λ (m : ℕ). zero_padded m (before ++ field ++ after)) (sym whole) ∙ padded_at (before ++ field) after in
+    sym (drop-take at k (with_crc seal block)) ∙ ap (drop at) front ∙ drop_at before field at place
+
+word_read : (numbers : List ℕ) (k : ℕ) → AreWords numbers → k < length numbers → big_number 4 (drop (4 * k) (words numbers)) ≡ get_or numbers k 0
+word_read [] k all within = absurd (omega arith)
+word_read (number ∷ numbers) zero all within = big_number-reads_back 4 number (words numbers) (all 0 0 (omega arith))
+word_read (number ∷ numbers) (suc k) all within =
+    let next : 4 * suc k ≡ 4 + 4 * k = omega arith in
+    ap (λ (m : ℕ). big_number 4 (drop m (words (number ∷ numbers)))) next
+    ∙ ap (big_number 4) (sym (drop-drop (4 * k) 4 (words (number ∷ numbers))))
+    ∙ word_read numbers k (λ (i d : ℕ) (below : i < length numbers). all (suc i) d (omega arith)) (omega arith)
+
+-- numbers are read back from their bytes
+pub words_read : (numbers found bytes : List ℕ) → AreWords numbers → length numbers ≡ length found → bytes ≡ words numbers
+    → ((k : ℕ) → k < length found → get_or found k 0 ≡ big_number 4 (drop (4 * k) bytes)) → found ≡ numbers
+words_read numbers found bytes all long is read =
+    ext_get_or 0 found numbers (sym long)
+    (λ (k : ℕ) (within : k < length found).
+    read k within ∙ ap (λ (xs : List ℕ). big_number 4 (drop (4 * k) xs)) is ∙ word_read numbers k all (omega arith))
+
+pub numbers_read : (n : ℕ) (bytes found : List ℕ) → length found ≡ n
+    → ((k : ℕ) → k < length found → get_or found k 0 ≡ big_number 4 (drop (4 * k) bytes)) → found ≡ numbers_in n bytes
+unfolding numbers_in
+numbers_read zero bytes [] long read = refl
+numbers_read zero bytes (number ∷ found) long read = absurd (omega arith)
+numbers_read (suc n) bytes [] long read = absurd (omega arith)
+numbers_read (suc n) bytes (number ∷ found) long read =
+    let first : number ≡ big_number 4 bytes = read 0 (omega arith) in
+    let rest : found ≡ numbers_in n (drop 4 bytes) =
+    numbers_read n (drop 4 bytes) found (omega arith)
+    (λ (k : ℕ) (below : k < length found).
+    let next : 4 * suc k ≡ 4 + 4 * k = omega arith in
+    read (suc k) (omega arith) ∙ ap (λ (m : ℕ). big_number 4 (drop m bytes)) next ∙ ap (big_number 4) (sym (drop-drop (4 * k) 4 bytes))) in
+    rw (first, rest) refl

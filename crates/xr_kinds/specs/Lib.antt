@@ -1,0 +1,13 @@
+pub mod BigEndianLaws
+pub mod Form
+pub mod FormLaws
+pub mod FreeRunLaws
+pub mod FreeRuns
+pub mod Mapping
+pub mod MappingLaws
+pub mod Reference
+pub mod ReferenceLaws
+pub mod Reverse
+pub mod ReverseLaws
+pub mod SpanLaws
+pub mod Spans

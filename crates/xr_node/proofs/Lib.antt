@@ -1,3 +1,0 @@
-pub mod BlockTesting
-pub mod ItemTesting
-pub mod Keys

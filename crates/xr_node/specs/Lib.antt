@@ -1,3 +1,0 @@
-pub mod BlockTest
-pub mod Node
-pub mod NodeLaws

@@ -1,0 +1,6 @@
+pub mod BitLaws
+pub mod Bits
+pub mod Lending
+pub mod Marks
+pub mod Overlay
+pub mod OverlayLaws
