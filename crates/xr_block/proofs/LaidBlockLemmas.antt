@@ -1,26 +1,26 @@
--- A block in the midst of an edit, beside its checksum: with other items, another count and other neighbours.
+-- A block in the midst of an edit, beside its checksum: with other items, another count and other siblings.
 use Rattle.std.proofs.Common.{◌≡◌, ℕ, ◌+◌, ◌-◌, ◌*◌, ◌≤◌, Option, List, ◌++◌, length, take, drop, replicate, refl, sym, ap, ◌∙◌, arith}
 use Rattle.std.proofs.Math.Seq.{take-append-add}
 use Rattle.std.proofs.lemmas.List.{append_assoc, drop_at, drop-append-le, drop-drop, drop-take, length-append, length-replicate, length-take-le, take-append-le, take_at, take-take}
 use Rattle.byteorder.specs.Endian.{big_bytes}
 use Rattle.xr_base.specs.Image.{overlaid}
 use Rattle.xr_base.specs.declared.geometry.TheConstants.{BLOCK_BYTES}
-use Rattle.xr_block.specs.BlockLaws.{drop_overlaid, fields_fill, length-header, length-neighbour}
+use Rattle.xr_block.specs.BlockLaws.{drop_overlaid, fields_fill, length-header, length-sibling}
 use Rattle.xr_kinds.specs.Form.{Form, header_size, pointer_size}
-use Rattle.xr_block.specs.TreeBlock.{Place, Site, filled, header, neighbour, sum_place, tree_block}
-use Rattle.xr_block.specs.CheckLaws.{IsLaid, block_laid, front, laid, laid_behind, laid_block, laid_front, rest_of}
+use Rattle.xr_block.specs.TreeBlock.{Place, Site, zero_padded, header, sibling, crc_place, tree_block}
+use Rattle.xr_block.specs.CheckLaws.{block_laid, front, laid, laid_after, laid_block, laid_front, rest_of, IsHeaderLaid}
 use Rattle.xr_block.specs.Edits.{IsHeader, sealed, with_left}
 use Rattle.xr_block.specs.SealLaws.{drop_summed, take_summed}
 use Rattle.xr_block.specs.declared.header.Header.{Header}
 
 -- bytes of the same length over some that stand at a place
-laid_over : (at : ℕ) (before old new behind : List ℕ) → length before ≡ at → length new ≡ length old
-    → overlaid at new (before ++ (old ++ behind)) ≡ before ++ (new ++ behind)
-laid_over at before old new behind long same =
-    let past : drop (at + length new) (before ++ (old ++ behind)) ≡ behind =
-    sym (drop-drop (length new) at (before ++ (old ++ behind))) ∙ ap (drop (length new)) (drop_at before (old ++ behind) at long)
-    ∙ drop_at old behind (length new) (sym same) in
-    rw (take_at before (old ++ behind) at long, past) (append_assoc before new behind)
+laid_over : (at : ℕ) (before old new after : List ℕ) → length before ≡ at → length new ≡ length old
+    → overlaid at new (before ++ (old ++ after)) ≡ before ++ (new ++ after)
+laid_over at before old new after long same =
+    let past : drop (at + length new) (before ++ (old ++ after)) ≡ after =
+    sym (drop-drop (length new) at (before ++ (old ++ after))) ∙ ap (drop (length new)) (drop_at before (old ++ after) at long)
+    ∙ drop_at old after (length new) (sym same) in
+    rw (take_at before (old ++ after) at long, past) (append_assoc before new after)
 
 -- the front of bytes over which others were laid
 take_overlaid : (at n : ℕ) (field bytes : List ℕ) → at + length field ≤ n → n ≤ length bytes → take n (overlaid at field bytes) ≡ overlaid at field (take n bytes)
@@ -40,23 +40,23 @@ count_front : {X : Type 0} (form : Form X) (site : Site) (place : Place) (count 
 count_front form site place count next =
     let p : ℕ = pointer_size form in
     let before : List ℕ = big_bytes 4 form.magic ++ big_bytes 2 place.level in
-    let behind : List ℕ = neighbour p place.left ++ (neighbour p place.right ++ (big_bytes 8 ((site.first + place.number) * 8)
+    let after : List ℕ = sibling p place.left ++ (sibling p place.right ++ (big_bytes 8 ((site.first + place.number) * 8)
     ++ (big_bytes 8 0 ++ (site.uuid ++ big_bytes p site.owner)))) in
-    let split : (n : ℕ) → front form site place n ≡ before ++ (big_bytes 2 n ++ behind) = λ n. simp append_assoc refl in
-    ap (overlaid 6 (big_bytes 2 next)) (split count) ∙ laid_over 6 before (big_bytes 2 count) (big_bytes 2 next) behind refl refl ∙ sym (split next)
+    let split : (n : ℕ) → front form site place n ≡ before ++ (big_bytes 2 n ++ after) = λ n. simp append_assoc refl in
+    ap (overlaid 6 (big_bytes 2 next)) (split count) ∙ laid_over 6 before (big_bytes 2 count) (big_bytes 2 next) after refl refl ∙ sym (split next)
 
 left_front : {X : Type 0} (form : Form X) (site : Site) (place : Place) (count : ℕ) (left : Option ℕ)
-    → overlaid 8 (neighbour (pointer_size form) left) (front form site place count) ≡ front form site (with_left left place) count
+    → overlaid 8 (sibling (pointer_size form) left) (front form site place count) ≡ front form site (with_left left place) count
 left_front form site place count left =
     let p : ℕ = pointer_size form in
     let before : List ℕ = big_bytes 4 form.magic ++ big_bytes 2 place.level ++ big_bytes 2 count in
-    let behind : List ℕ = neighbour p place.right ++ (big_bytes 8 ((site.first + place.number) * 8)
+    let after : List ℕ = sibling p place.right ++ (big_bytes 8 ((site.first + place.number) * 8)
     ++ (big_bytes 8 0 ++ (site.uuid ++ big_bytes p site.owner))) in
-    let split : (o : Option ℕ) → front form site (with_left o place) count ≡ before ++ (neighbour p o ++ behind) = λ o. simp append_assoc refl in
-    ap (overlaid 8 (neighbour p left)) (split place.left)
-    ∙ laid_over 8 before (neighbour p place.left) (neighbour p left) behind refl (length-neighbour p left ∙ sym (length-neighbour p place.left)) ∙ sym (split left)
+    let split : (o : Option ℕ) → front form site (with_left o place) count ≡ before ++ (sibling p o ++ after) = λ o. simp append_assoc refl in
+    ap (overlaid 8 (sibling p left)) (split place.left)
+    ∙ laid_over 8 before (sibling p place.left) (sibling p left) after refl (length-sibling p left ∙ sym (length-sibling p place.left)) ∙ sym (split left)
 
--- a block in two parts: the header, and what is behind it
+-- a block in two parts: the header, and what is after it
 pub record IsSplit {X : Type 0} (form : Form X) (start : ℕ) (head rest bytes : List ℕ) : Type 0 where
   pub starts : start ≡ header_size form
   pub heads : head ≡ take start bytes
@@ -77,21 +77,21 @@ module _ {X : Type 0} (form : Form X) (site : Site) (identified : length site.uu
 
   -- what stands beside the checksum of a block that is one of a tree as it would be sealed
   sealed_laid : (place : Place) (count : ℕ) (items bytes : List ℕ) → length bytes ≡ BLOCK_BYTES → sealed form bytes ≡ tree_block form site place count items
-      → IsLaid form site place count items bytes
+      → IsHeaderLaid form site place count items bytes
   sealed_laid place count items bytes long is =
       let fill = fields_fill form.long in
-      let sp : ℕ = sum_place form in
+      let sp : ℕ = crc_place form in
       let whole = block_laid form site place count items (sealed form bytes) (omega (arith, length-laid place count items)) is in
       record {
         before = sym (take_summed sp bytes (omega (arith, fill, long))) ∙ whole.before;
-        behind = sym (drop_summed sp (sp + 4) bytes (omega arith) (omega (arith, fill, long))) ∙ whole.behind;
+        after = sym (drop_summed sp (sp + 4) bytes (omega arith) (omega (arith, fill, long))) ∙ whole.after;
       }
 
-  items_laid : (place : Place) (count : ℕ) (items next bytes area : List ℕ) → length bytes ≡ BLOCK_BYTES → IsLaid form site place count items bytes
-      → area ≡ rest_of form next → IsLaid form site place count next (take (header_size form) bytes ++ area)
+  items_laid : (place : Place) (count : ℕ) (items next bytes area : List ℕ) → length bytes ≡ BLOCK_BYTES → IsHeaderLaid form site place count items bytes
+      → area ≡ rest_of form next → IsHeaderLaid form site place count next (take (header_size form) bytes ++ area)
   items_laid place count items next bytes area long is rest =
       let fill = fields_fill form.long in
-      let sp : ℕ = sum_place form in
+      let sp : ℕ = crc_place form in
       let size : ℕ = header_size form in
       let zeros : ℕ = size - (sp + 4) in
       let head : List ℕ = take size bytes in
@@ -99,27 +99,27 @@ module _ {X : Type 0} (form : Form X) (site : Site) (identified : length site.uu
       let sum : size ≡ sp + 4 + zeros = omega (arith, fill) in
       let between : drop (sp + 4) head ≡ replicate zeros 0 =
       ap (λ (n : ℕ). drop (sp + 4) (take n bytes)) sum ∙ drop-take (sp + 4) zeros bytes
-      ∙ ap (take zeros) (is.behind ∙ laid_behind form site place count items identified)
+      ∙ ap (take zeros) (is.after ∙ laid_after form site place count items identified)
       ∙ take_at (replicate zeros 0) _ zeros (length-replicate zeros 0) in
       record {
         before = take-append-le sp head area (omega (arith, fill, length_head)) ∙ take-take sp size bytes (omega (arith, fill))
             ∙ is.before ∙ laid_front form site place count items identified ∙ sym (laid_front form site place count next identified);
-        behind = drop-append-le (sp + 4) head area (omega (arith, fill, length_head)) ∙ ap (λ (xs : List ℕ). xs ++ area) between
-            ∙ ap (λ (xs : List ℕ). replicate zeros 0 ++ xs) rest ∙ sym (laid_behind form site place count next identified);
+        after = drop-append-le (sp + 4) head area (omega (arith, fill, length_head)) ∙ ap (λ (xs : List ℕ). xs ++ area) between
+            ∙ ap (λ (xs : List ℕ). replicate zeros 0 ++ xs) rest ∙ sym (laid_after form site place count next identified);
       }
 
-  field_laid : (place other : Place) (count next at : ℕ) (items field bytes : List ℕ) → header_size form ≤ length bytes → at + length field ≤ sum_place form
-      → overlaid at field (front form site place count) ≡ front form site other next → IsLaid form site place count items bytes
-      → IsLaid form site other next items (overlaid at field bytes)
+  field_laid : (place other : Place) (count next at : ℕ) (items field bytes : List ℕ) → header_size form ≤ length bytes → at + length field ≤ crc_place form
+      → overlaid at field (front form site place count) ≡ front form site other next → IsHeaderLaid form site place count items bytes
+      → IsHeaderLaid form site other next items (overlaid at field bytes)
   field_laid place other count next at items field bytes long within over is =
       let fill = fields_fill form.long in
-      let sp : ℕ = sum_place form in
+      let sp : ℕ = crc_place form in
       record {
         before = take_overlaid at sp field bytes within (omega (arith, fill, long))
             ∙ ap (overlaid at field) (is.before ∙ laid_front form site place count items identified) ∙ over
             ∙ sym (laid_front form site other next items identified);
-        behind = drop_overlaid at (sp + 4) field bytes (omega (arith, within)) (omega (arith, fill, long, within)) ∙ is.behind
-            ∙ laid_behind form site place count items identified ∙ sym (laid_behind form site other next items identified);
+        after = drop_overlaid at (sp + 4) field bytes (omega (arith, within)) (omega (arith, fill, long, within)) ∙ is.after
+            ∙ laid_after form site place count items identified ∙ sym (laid_after form site other next items identified);
       }
 
   -- other items, as many as there were
@@ -142,22 +142,22 @@ module _ {X : Type 0} (form : Form X) (site : Site) (identified : length site.uu
       (field_laid place place count next 6 others (big_bytes 2 next) (head ++ area) room (omega (arith, fill)) (count_front form site place count next)
       (items_laid place count items others bytes area long (sealed_laid place count items bytes long is) rest))
 
-  -- other neighbours
+  -- other siblings
   pub left_block : (place : Place) (count : ℕ) (left : Option ℕ) (items bytes : List ℕ) → length bytes ≡ BLOCK_BYTES
       → sealed form bytes ≡ tree_block form site place count items
-      → sealed form (overlaid 8 (neighbour (pointer_size form) left) bytes) ≡ tree_block form site (with_left left place) count items
+      → sealed form (overlaid 8 (sibling (pointer_size form) left) bytes) ≡ tree_block form site (with_left left place) count items
   left_block place count left items bytes long is =
       let fill = fields_fill form.long in
       laid_block form site (with_left left place) count items _
-      (field_laid place (with_left left place) count count 8 items (neighbour (pointer_size form) left) bytes (omega (arith, fill, long))
-      (omega (arith, fill, length-neighbour (pointer_size form) left)) (left_front form site place count left) (sealed_laid place count items bytes long is))
+      (field_laid place (with_left left place) count count 8 items (sibling (pointer_size form) left) bytes (omega (arith, fill, long))
+      (omega (arith, fill, length-sibling (pointer_size form) left)) (left_front form site place count left) (sealed_laid place count items bytes long is))
 
--- a header's parts, one behind the other
+-- a header's parts, one after the other
 pub header_of : {X : Type 0} (form : Form X) (site : Site) (place : Place) (fields : Header) (count : ℕ) (start links placed owned : List ℕ)
     → IsHeader fields site place → start ≡ big_bytes 4 form.magic ++ big_bytes 2 fields.level ++ big_bytes 2 count
-    → links ≡ neighbour (pointer_size form) fields.left ++ neighbour (pointer_size form) fields.right
+    → links ≡ sibling (pointer_size form) fields.left ++ sibling (pointer_size form) fields.right
     → placed ≡ big_bytes 8 (fields.block * 8) ++ big_bytes 8 0 ++ fields.uuid
-    → owned ≡ big_bytes (pointer_size form) fields.owner ++ replicate (header_size form - sum_place form) 0
+    → owned ≡ big_bytes (pointer_size form) fields.owner ++ replicate (header_size form - crc_place form) 0
     → start ++ (links ++ (placed ++ owned)) ≡ header form site place count
 unfolding header
 header_of form site place fields count start links placed owned names is_start is_links is_placed is_owned =
@@ -165,7 +165,7 @@ header_of form site place fields count start links placed owned names is_start i
 
 -- a block that is built of its header and its items
 pub built_block : {X : Type 0} (form : Form X) (site : Site) (place : Place) (count room : ℕ) (items head area : List ℕ) → length site.uuid ≡ 16
-    → head ≡ header form site place count → area ≡ filled room items → room + header_size form ≡ BLOCK_BYTES
+    → head ≡ header form site place count → area ≡ zero_padded room items → room + header_size form ≡ BLOCK_BYTES
     → sealed form (head ++ area) ≡ tree_block form site place count items
 unfolding tree_block
 built_block form site place count room items head area identified heads areas rooms =

@@ -8,12 +8,12 @@ use Rattle.std.specs.List.{All, flat_map, insert, remove}
 use Rattle.xr_base.specs.Image.{overlaid}
 use Rattle.xr_base.specs.declared.geometry.TheConstants.{BLOCK_BYTES}
 use Rattle.xr_kinds.specs.Form.{Form, IsForm, header_size}
-use Rattle.xr_block.specs.TreeBlock.{Place, Site, count_in, filled, tree_block}
+use Rattle.xr_block.specs.TreeBlock.{Place, Site, count_in, zero_padded, tree_block}
 use Rattle.xr_block.specs.Edits.{IsLeafOf, sealed}
 use Rattle.xr_block.specs.ItemBytes.{with_item, without_item}
 use Rattle.xr_block.specs.SealLaws.{sealed_count, sealed_rest}
 use Rattle.xr_block.specs.EditLaws.{leaf_count, leaf_rest, rest_filled}
-use Rattle.xr_block.specs.ItemByteLaws.{cut_items, put_items, set_items}
+use Rattle.xr_block.specs.ItemByteLaws.{removed_items, put_items, set_items}
 use Rattle.xr_block.proofs.LaidBlockLemmas.{IsSplit, edited, edited_block, kept_block}
 
 module _ {X : Type 0} (form : Form X) (laws : IsForm form) (site : Site) (place : Place) (records : List X) (bytes : List ℕ)
@@ -26,7 +26,7 @@ module _ {X : Type 0} (form : Form X) (laws : IsForm form) (site : Site) (place 
   room = BLOCK_BYTES - header_size form
 
   pub leaf_edited : (next : List X) (count : ℕ) (area : List ℕ) → All IsValid next → length next ≤ form.leaf_max → count ≡ length next
-      → area ≡ filled room (flat_map form.bytes_of next) → IsLeafOf form site place next (sealed form (edited count head area))
+      → area ≡ zero_padded room (flat_map form.bytes_of next) → IsLeafOf form site place next (sealed form (edited count head area))
   leaf_edited next count area valid few counted filled_area = record {
     identified = is.identified;
     valid = valid;
@@ -37,7 +37,7 @@ module _ {X : Type 0} (form : Form X) (laws : IsForm form) (site : Site) (place 
         long is.whole (filled_area ∙ sym (rest_filled form (flat_map form.bytes_of next)));
   }
 
-  pub leaf_kept : (next : List X) (area : List ℕ) → All IsValid next → length next ≡ length records → area ≡ filled room (flat_map form.bytes_of next)
+  pub leaf_kept : (next : List X) (area : List ℕ) → All IsValid next → length next ≡ length records → area ≡ zero_padded room (flat_map form.bytes_of next)
       → IsLeafOf form site place next (sealed form (head ++ area))
   leaf_kept next area valid same filled_area = record {
     identified = is.identified;
@@ -53,7 +53,7 @@ module _ {X : Type 0} (form : Form X) (laws : IsForm form) (site : Site) (place 
   counts = sym (sealed_count form bytes long) ∙ leaf_count form laws site place (sealed form bytes) records is
 
   -- the records' bytes are those that an edit finds
-  found : {Y : Type 0} (f : List ℕ → Y) → f rest ≡ f (filled room (flat_map form.bytes_of records))
+  found : {Y : Type 0} (f : List ℕ → Y) → f rest ≡ f (zero_padded room (flat_map form.bytes_of records))
   found f = ap f (parts.rests ∙ ap (λ (n : ℕ). drop n bytes) parts.starts ∙ sym (sealed_rest form bytes long))
       ∙ ap f (leaf_rest form laws site place (sealed form bytes) records is)
 
@@ -69,13 +69,13 @@ module _ {X : Type 0} (form : Form X) (laws : IsForm form) (site : Site) (place 
       (omega (arith, length-insert records k r (omega (arith, within, counts)), few, counts))
       (omega (arith, length-insert records k r (omega (arith, within, counts)), more, counted, counts))
       (is_area ∙ found (with_item (form.size * k) (form.size * count) (form.bytes_of r))
-      ∙ ap (λ (n : ℕ). with_item (form.size * k) (form.size * n) (form.bytes_of r) (filled room (flat_map form.bytes_of records))) (counted ∙ counts)
+      ∙ ap (λ (n : ℕ). with_item (form.size * k) (form.size * n) (form.bytes_of r) (zero_padded room (flat_map form.bytes_of records))) (counted ∙ counts)
       ∙ put_items form.bytes_of form.size room k records r (λ i d _. laws.sized _) (laws.sized r) (omega (arith, within, counts)) (omega (arith, most, laws.leaf_fits)))
 
-  pub record_cut : (k count next : ℕ) (area : List ℕ) → count ≡ count_in bytes → k < count_in bytes → next ≡ count - 1
+  pub record_removed : (k count next : ℕ) (area : List ℕ) → count ≡ count_in bytes → k < count_in bytes → next ≡ count - 1
       → area ≡ without_item (form.size * k) (form.size * count) form.size rest
       → IsLeafOf form site place (remove records k) (sealed form (edited next head area))
-  record_cut k count next area counted within less is_area =
+  record_removed k count next area counted within less is_area =
       let most : length records * form.size ≤ form.leaf_max * form.size = mul-le-mul_right form.size is.few in
       let left : length (remove records k) ≡ length records - 1 = length-append (take k records) (drop (suc k) records)
       ∙ omega (arith, length-take-le k records (omega (arith, within, counts)), length-drop (suc k) records, within, counts) in
@@ -84,8 +84,8 @@ module _ {X : Type 0} (form : Form X) (laws : IsForm form) (site : Site) (place 
       (omega (arith, left, is.few))
       (omega (arith, left, less, counted, counts))
       (is_area ∙ found (without_item (form.size * k) (form.size * count) form.size)
-      ∙ ap (λ (n : ℕ). without_item (form.size * k) (form.size * n) form.size (filled room (flat_map form.bytes_of records))) (counted ∙ counts)
-      ∙ cut_items form.bytes_of form.size room k records (λ i d _. laws.sized _) (omega (arith, within, counts)) (omega (arith, most, laws.leaf_fits)))
+      ∙ ap (λ (n : ℕ). without_item (form.size * k) (form.size * n) form.size (zero_padded room (flat_map form.bytes_of records))) (counted ∙ counts)
+      ∙ removed_items form.bytes_of form.size room k records (λ i d _. laws.sized _) (omega (arith, within, counts)) (omega (arith, most, laws.leaf_fits)))
 
   pub record_set : (k : ℕ) (r : X) (area : List ℕ) → k < count_in bytes → form.is_valid r ≡ true
       → area ≡ overlaid (form.size * k) (form.bytes_of r) rest

@@ -2,26 +2,26 @@
 use Rattle.std.specs.Prelude.{◌≡◌, ℕ, ◌≤◌, Bool, true, false, List, length, take}
 use Rattle.std.specs.List.{AllPairs, AllWithin}
 use Rattle.std.specs.Ordering.{is_ge, is_gt, is_le, is_lt}
-use Rattle.xr_block.specs.declared.bound.Cut.{Cut}
-use Rattle.xr_block.specs.declared.bound.Cut.TheVariants.{Start, Before, Behind}
+use Rattle.xr_block.specs.declared.bound.Bound.{Bound}
+use Rattle.xr_block.specs.declared.bound.Bound.TheVariants.{Start, Before, After}
 use Rattle.xr_kinds.specs.Form.{Form}
 use Rattle.xr_block.specs.TreeBlock.{Entry}
 
-abbrev pub is_before : {X : Type 0} → Form X → Cut X → X → Bool
+abbrev pub is_before : {X : Type 0} → Form X → Bound X → X → Bool
 is_before form Start x = false
 is_before form (Before r) x = is_lt (form.order x r)
-is_before form (Behind r) x = is_le (form.order x r)
+is_before form (After r) x = is_le (form.order x r)
 
 -- the same of the records with a key, and of the first record under a child
-abbrev pub key_is_before : {X : Type 0} → Form X → Cut X → List ℕ → Bool
+abbrev pub key_is_before : {X : Type 0} → Form X → Bound X → List ℕ → Bool
 key_is_before form Start key = false
 key_is_before form (Before r) key = is_gt (form.key_order r key)
-key_is_before form (Behind r) key = is_ge (form.key_order r key)
+key_is_before form (After r) key = is_ge (form.key_order r key)
 
-abbrev pub entry_is_before : {X : Type 0} → Form X → Cut X → Entry → Bool
-entry_is_before form cut e = key_is_before form cut (take form.low e.key)
+abbrev pub entry_is_before : {X : Type 0} → Form X → Bound X → Entry → Bool
+entry_is_before form bound e = key_is_before form bound (take form.low e.key)
 
--- no item passes the test behind one that doesn't
+-- no item passes the test after one that doesn't
 abbrev pub IsParted : {X : Type 0} → (X → Bool) → List X → Type 0
 IsParted test xs = AllPairs (λ a b. test b ≡ true → test a ≡ true) xs
 

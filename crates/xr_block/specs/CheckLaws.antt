@@ -11,11 +11,11 @@ use Rattle.xr_base.specs.Image.{overlaid, part}
 use Rattle.xr_base.specs.ImageLaws.{part-overlaid}
 use Rattle.xr_base.specs.declared.geometry.TheConstants.{BLOCK_BYTES}
 use Rattle.xr_kinds.specs.BigEndianLaws.{bytes_again, dropped_bytes, reads_alone, taken_bytes}
-use Rattle.xr_block.specs.BlockLaws.{block_is, drop_overlaid, fields_fill, length-filled, length-header, length-neighbour, summed_same}
-use Rattle.xr_block.specs.Checks.{IsFramed, left_in, neighbour_in, place_in, right_in}
+use Rattle.xr_block.specs.BlockLaws.{block_is, drop_overlaid, fields_fill, length-zero_padded, length-header, length-sibling, summed_same}
+use Rattle.xr_block.specs.Checks.{HasHeader, left_in, sibling_in, place_in, right_in}
 use Rattle.xr_kinds.specs.Form.{Form, header_size, pointer_size}
 use Rattle.xr_base.specs.Fields.{AreBytes}
-use Rattle.xr_block.specs.TreeBlock.{Place, Site, count_in, filled, header, neighbour, sum_place, summed, tree_block}
+use Rattle.xr_block.specs.TreeBlock.{Place, Site, count_in, zero_padded, header, sibling, crc_place, with_crc, tree_block}
 
 -- what stands at a place, laid over it again
 laid_again : (at n : ℕ) (bytes : List ℕ) → at + n ≤ length bytes → overlaid at (part at n bytes) bytes ≡ bytes
@@ -31,10 +31,10 @@ length-sum at bytes = length-bytes_low_first 0 4 (checksum_of (without_four at b
 
 -- the checksum is right where its four bytes are those of all others
 pub summed_from : (at : ℕ) (bytes sum : List ℕ) → at + 4 ≤ length bytes → sum ≡ little_bytes 4 (checksum_of (without_four at bytes)) → part at 4 bytes ≡ sum
-    → bytes ≡ summed at bytes
+    → bytes ≡ with_crc at bytes
 summed_from at bytes sum fits is right = sym (laid_again at 4 bytes fits) ∙ ap (λ (xs : List ℕ). overlaid at xs bytes) (right ∙ is)
 
-pub sum_from : (at : ℕ) (bytes sum : List ℕ) → at + 4 ≤ length bytes → sum ≡ little_bytes 4 (checksum_of (without_four at bytes)) → bytes ≡ summed at bytes
+pub sum_from : (at : ℕ) (bytes sum : List ℕ) → at + 4 ≤ length bytes → sum ≡ little_bytes 4 (checksum_of (without_four at bytes)) → bytes ≡ with_crc at bytes
     → part at 4 bytes ≡ sum
 sum_from at bytes sum fits is right =
     ap (part at 4) right ∙ part-overlaid at 4 (little_bytes 4 (checksum_of (without_four at bytes))) bytes (length-sum at bytes) fits ∙ sym is
@@ -51,26 +51,26 @@ parted n k m xs ys field sum long is = (
 )
 
 -- a neighbour's bytes are those that it is read from, and it is read back
-no_neighbour : (long : Bool) → (let width : ℕ = if long then 8 else 4 in big_bytes width (256 ^ width - 1) ≡ replicate width 255)
-no_neighbour true = refl
-no_neighbour false = refl
+no_sibling : (long : Bool) → (let width : ℕ = if long then 8 else 4 in big_bytes width (256 ^ width - 1) ≡ replicate width 255)
+no_sibling true = refl
+no_sibling false = refl
 
 none_fits : (long : Bool) → (let width : ℕ = if long then 8 else 4 in 256 ^ width - 1 < 256 ^ width)
 none_fits true = omega arith
 none_fits false = omega arith
 
-neighbour_chosen : (long test : Bool) (n : ℕ) → (let width : ℕ = if long then 8 else 4 in
-    n == 256 ^ width - 1 ≡ test → big_bytes width n ≡ neighbour width (if test then None else Some n))
-neighbour_chosen long true n is = let width : ℕ = if long then 8 else 4 in ap (big_bytes width) (eqb-true n (256 ^ width - 1) is) ∙ no_neighbour long
-neighbour_chosen long false n is = refl
+sibling_chosen : (long test : Bool) (n : ℕ) → (let width : ℕ = if long then 8 else 4 in
+    n == 256 ^ width - 1 ≡ test → big_bytes width n ≡ sibling width (if test then None else Some n))
+sibling_chosen long true n is = let width : ℕ = if long then 8 else 4 in ap (big_bytes width) (eqb-true n (256 ^ width - 1) is) ∙ no_sibling long
+sibling_chosen long false n is = refl
 
-pub neighbour_again : (long : Bool) (bytes : List ℕ) → (let width : ℕ = if long then 8 else 4 in
-    width ≤ length bytes → AreBytes bytes → take width bytes ≡ neighbour width (neighbour_in width bytes))
-neighbour_again long bytes fits all =
+pub sibling_again : (long : Bool) (bytes : List ℕ) → (let width : ℕ = if long then 8 else 4 in
+    width ≤ length bytes → AreBytes bytes → take width bytes ≡ sibling width (sibling_in width bytes))
+sibling_again long bytes fits all =
     let width : ℕ = if long then 8 else 4 in
     sym (bytes_again width (take width bytes) (length-take-le width bytes fits) (taken_bytes width bytes all))
     ∙ ap (big_bytes width) (big_from-take 0 width width bytes (omega arith))
-    ∙ neighbour_chosen long (big_number width bytes == 256 ^ width - 1) (big_number width bytes) refl
+    ∙ sibling_chosen long (big_number width bytes == 256 ^ width - 1) (big_number width bytes) refl
 
 -- a number of a block, if there is one, that isn't the sign for none
 abbrev pub Names : ℕ → Option ℕ → Type 0
@@ -82,11 +82,11 @@ chosen_back true n m is other = absurd (other (eqb-true n m is))
 chosen_back false n m is other = refl
 
 neighbour_read : (long : Bool) (o : Option ℕ) (bytes : List ℕ) → (let width : ℕ = if long then 8 else 4 in
-    Names width o → take width bytes ≡ neighbour width o → neighbour_in width bytes ≡ o)
+    Names width o → take width bytes ≡ sibling width o → sibling_in width bytes ≡ o)
 neighbour_read long None bytes small is =
     let width : ℕ = if long then 8 else 4 in
     let number : big_number width bytes ≡ 256 ^ width - 1 =
-    sym (big_from-take 0 width width bytes (omega arith)) ∙ ap (big_number width) (is ∙ sym (no_neighbour long))
+    sym (big_from-take 0 width width bytes (omega arith)) ∙ ap (big_number width) (is ∙ sym (no_sibling long))
     ∙ reads_alone width (256 ^ width - 1) (none_fits long) in
     ap (λ (test : Bool). if test then None else Some (big_number width bytes)) (eq-eqb (big_number width bytes) (256 ^ width - 1) number)
 neighbour_read long (Some n) bytes small is =
@@ -97,7 +97,7 @@ neighbour_read long (Some n) bytes small is =
     ap (λ (x : ℕ). if x == 256 ^ width - 1 then None else Some x) number
     ∙ chosen_back (n == 256 ^ width - 1) n (256 ^ width - 1) refl (λ same. absurd (omega (arith, small, same)))
 
--- behind the checksum's room there may be zeros, and then the items
+-- after the checksum's room there may be zeros, and then the items
 behind_sum : (long : Bool) (rest : List ℕ) → (let size : ℕ = if long then 72 else 56 in let sum : ℕ = if long then 64 else 52 in
     drop 4 (replicate (size - sum) 0 ++ rest) ≡ replicate (size - (sum + 4)) 0 ++ rest)
 behind_sum true rest = refl
@@ -107,23 +107,23 @@ behind_sum false rest = refl
 abbrev pub front : {X : Type 0} → Form X → Site → Place → ℕ → List ℕ
 front form site place count =
     big_bytes 4 form.magic ++ big_bytes 2 place.level ++ big_bytes 2 count
-    ++ neighbour (pointer_size form) place.left ++ neighbour (pointer_size form) place.right
+    ++ sibling (pointer_size form) place.left ++ sibling (pointer_size form) place.right
     ++ big_bytes 8 ((site.first + place.number) * 8) ++ big_bytes 8 0 ++ site.uuid ++ big_bytes (pointer_size form) site.owner
 
 header_is : {X : Type 0} (form : Form X) (site : Site) (place : Place) (count : ℕ)
-    → header form site place count ≡ front form site place count ++ replicate (header_size form - sum_place form) 0
+    → header form site place count ≡ front form site place count ++ replicate (header_size form - crc_place form) 0
 unfolding header
 header_is form site place count = refl
 
 abbrev pub laid : {X : Type 0} → Form X → Site → Place → ℕ → List ℕ → List ℕ
-laid form site place count items = filled BLOCK_BYTES (header form site place count ++ items)
+laid form site place count items = zero_padded BLOCK_BYTES (header form site place count ++ items)
 
--- what stands behind a header's checksum
+-- what stands after a header's checksum
 abbrev pub rest_of : {X : Type 0} → Form X → List ℕ → List ℕ
 rest_of form items = items ++ replicate (BLOCK_BYTES - (header_size form + length items)) 0
 
 module _ {X : Type 0} (form : Form X) (site : Site) (place : Place) (count : ℕ) (items : List ℕ) (identified : length site.uuid ≡ 16) where
-  length-front : length (front form site place count) ≡ sum_place form
+  length-front : length (front form site place count) ≡ crc_place form
   length-front =
       let fill = fields_fill form.long in
       simp length-append
@@ -131,12 +131,12 @@ module _ {X : Type 0} (form : Form X) (site : Site) (place : Place) (count : ℕ
         arith,
         fill,
         identified,
-        length-neighbour (pointer_size form) place.left,
-        length-neighbour (pointer_size form) place.right,
+        length-sibling (pointer_size form) place.left,
+        length-sibling (pointer_size form) place.right,
         length-bytes_high_first (pointer_size form) site.owner,
       ))
 
-  laid_is : laid form site place count items ≡ front form site place count ++ (replicate (header_size form - sum_place form) 0 ++ rest_of form items)
+  laid_is : laid form site place count items ≡ front form site place count ++ (replicate (header_size form - crc_place form) 0 ++ rest_of form items)
   laid_is =
       let long : length (header form site place count ++ items) ≡ header_size form + length items =
       length-append (header form site place count) items ∙ omega (arith, length-header form site place count identified) in
@@ -144,21 +144,21 @@ module _ {X : Type 0} (form : Form X) (site : Site) (place : Place) (count : ℕ
       ap (λ (n : ℕ). header form site place count ++ items ++ replicate (BLOCK_BYTES - n) 0) long
       ∙ append_assoc (header form site place count) items zeros
       ∙ ap (λ (xs : List ℕ). xs ++ (items ++ zeros)) (header_is form site place count)
-      ∙ append_assoc (front form site place count) (replicate (header_size form - sum_place form) 0) (items ++ zeros)
+      ∙ append_assoc (front form site place count) (replicate (header_size form - crc_place form) 0) (items ++ zeros)
 
-  pub laid_front : take (sum_place form) (laid form site place count items) ≡ front form site place count
-  laid_front = ap (take (sum_place form)) laid_is ∙ take_at (front form site place count) _ (sum_place form) length-front
+  pub laid_front : take (crc_place form) (laid form site place count items) ≡ front form site place count
+  laid_front = ap (take (crc_place form)) laid_is ∙ take_at (front form site place count) _ (crc_place form) length-front
 
-  pub laid_behind : drop (sum_place form + 4) (laid form site place count items)
-      ≡ replicate (header_size form - (sum_place form + 4)) 0 ++ rest_of form items
-  laid_behind =
-      sym (drop-drop 4 (sum_place form) (laid form site place count items))
-      ∙ ap (λ (xs : List ℕ). drop 4 (drop (sum_place form) xs)) laid_is
-      ∙ ap (drop 4) (drop_at (front form site place count) _ (sum_place form) length-front) ∙ behind_sum form.long (rest_of form items)
+  pub laid_after : drop (crc_place form + 4) (laid form site place count items)
+      ≡ replicate (header_size form - (crc_place form + 4)) 0 ++ rest_of form items
+  laid_after =
+      sym (drop-drop 4 (crc_place form) (laid form site place count items))
+      ∙ ap (λ (xs : List ℕ). drop 4 (drop (crc_place form) xs)) laid_is
+      ∙ ap (drop 4) (drop_at (front form site place count) _ (crc_place form) length-front) ∙ behind_sum form.long (rest_of form items)
 
 -- a header's fields that are as they have to be, with the count and the siblings that are there, are those of a block
 framed_front : {X : Type 0} (form : Form X) (site : Site) (n level : ℕ) (bytes : List ℕ) → length bytes ≡ BLOCK_BYTES → AreBytes bytes
-    → IsFramed form site n level bytes → take (sum_place form) bytes ≡ front form site (place_in form n level bytes) (count_in bytes)
+    → HasHeader form site n level bytes → take (crc_place form) bytes ≡ front form site (place_in form n level bytes) (count_in bytes)
 framed_front form site n level bytes long all framed =
     let fill = fields_fill form.long in
     let p : ℕ = pointer_size form in
@@ -166,8 +166,8 @@ framed_front form site n level bytes long all framed =
     let count : part 6 2 bytes ≡ big_bytes 2 (count_in bytes) =
     sym (bytes_again 2 (part 6 2 bytes) (length-take-le 2 (drop 6 bytes) (omega (arith, long, length-drop 6 bytes))) (taken_bytes 2 (drop 6 bytes) (dropped_bytes 6 bytes all)))
     ∙ ap (big_bytes 2) (big_from-take 0 2 2 (drop 6 bytes) (omega arith)) in
-    let left = neighbour_again form.long (drop 8 bytes) (omega (arith, long, fill, length-drop 8 bytes)) (dropped_bytes 8 bytes all) in
-    let right = neighbour_again form.long (drop (8 + p) bytes) (omega (arith, long, fill, length-drop (8 + p) bytes)) (dropped_bytes (8 + p) bytes all) in
+    let left = sibling_again form.long (drop 8 bytes) (omega (arith, long, fill, length-drop 8 bytes)) (dropped_bytes 8 bytes all) in
+    let right = sibling_again form.long (drop (8 + p) bytes) (omega (arith, long, fill, length-drop (8 + p) bytes)) (dropped_bytes (8 + p) bytes all) in
     let two = joined 4 2 6 bytes _ _ refl framed.magic fields.level_is in
     let three = joined 6 2 8 bytes _ _ refl two count in
     let four = joined 8 p (8 + p) bytes _ _ refl three left in
@@ -175,62 +175,62 @@ framed_front form site n level bytes long all framed =
     let six = joined (8 + 2 * p) 8 (16 + 2 * p) bytes _ _ (omega arith) five fields.sector in
     let seven = joined (16 + 2 * p) 8 (24 + 2 * p) bytes _ _ (omega arith) six fields.unlogged in
     let eight = joined (24 + 2 * p) 16 (40 + 2 * p) bytes _ _ (omega arith) seven fields.identified in
-    joined (40 + 2 * p) p (sum_place form) bytes _ _ (omega (arith, fill)) eight fields.owned
+    joined (40 + 2 * p) p (crc_place form) bytes _ _ (omega (arith, fill)) eight fields.owned
 
 -- so the block is one of a tree where its items and zeros follow
 pub framed_block : {X : Type 0} (form : Form X) (site : Site) (n level : ℕ) (items bytes : List ℕ) → length site.uuid ≡ 16
-    → length bytes ≡ BLOCK_BYTES → AreBytes bytes → IsFramed form site n level bytes → drop (header_size form) bytes ≡ rest_of form items
+    → length bytes ≡ BLOCK_BYTES → AreBytes bytes → HasHeader form site n level bytes → drop (header_size form) bytes ≡ rest_of form items
     → bytes ≡ tree_block form site (place_in form n level bytes) (count_in bytes) items
 framed_block form site n level items bytes identified long all framed rest =
     let fill = fields_fill form.long in
     let place : Place = place_in form n level bytes in
-    let zeros : ℕ = header_size form - (sum_place form + 4) in
-    let size : sum_place form + 4 + zeros ≡ header_size form = omega (arith, fill) in
-    let behind : drop (sum_place form + 4) bytes ≡ replicate zeros 0 ++ rest_of form items =
-    sym (take-append-drop zeros (drop (sum_place form + 4) bytes))
-    ∙ ap (λ (xs : List ℕ). xs ++ drop zeros (drop (sum_place form + 4) bytes)) framed.fields.zeros
+    let zeros : ℕ = header_size form - (crc_place form + 4) in
+    let size : crc_place form + 4 + zeros ≡ header_size form = omega (arith, fill) in
+    let after : drop (crc_place form + 4) bytes ≡ replicate zeros 0 ++ rest_of form items =
+    sym (take-append-drop zeros (drop (crc_place form + 4) bytes))
+    ∙ ap (λ (xs : List ℕ). xs ++ drop zeros (drop (crc_place form + 4) bytes)) framed.fields.zeros
     ∙ ap (λ (xs : List ℕ). replicate zeros 0 ++ xs)
-    (drop-drop zeros (sum_place form + 4) bytes ∙ ap (λ (k : ℕ). drop k bytes) size ∙ rest) in
+    (drop-drop zeros (crc_place form + 4) bytes ∙ ap (λ (k : ℕ). drop k bytes) size ∙ rest) in
     block_is form site place (count_in bytes) items bytes framed.checked (
       framed_front form site n level bytes long all framed ∙ sym (laid_front form site place (count_in bytes) items identified),
-      behind ∙ sym (laid_behind form site place (count_in bytes) items identified),
+      after ∙ sym (laid_after form site place (count_in bytes) items identified),
     )
 
 -- a block's bytes beside its checksum
-pub record IsLaid {X : Type 0} (form : Form X) (site : Site) (place : Place) (count : ℕ) (items bytes : List ℕ) : Type 0 where
-  pub before : take (sum_place form) bytes ≡ take (sum_place form) (laid form site place count items)
-  pub behind : drop (sum_place form + 4) bytes ≡ drop (sum_place form + 4) (laid form site place count items)
+pub record IsHeaderLaid {X : Type 0} (form : Form X) (site : Site) (place : Place) (count : ℕ) (items bytes : List ℕ) : Type 0 where
+  pub before : take (crc_place form) bytes ≡ take (crc_place form) (laid form site place count items)
+  pub after : drop (crc_place form + 4) bytes ≡ drop (crc_place form + 4) (laid form site place count items)
 
 pub block_laid : {X : Type 0} (form : Form X) (site : Site) (place : Place) (count : ℕ) (items bytes : List ℕ)
-    → BLOCK_BYTES ≤ length (laid form site place count items) → bytes ≡ tree_block form site place count items → IsLaid form site place count items bytes
+    → BLOCK_BYTES ≤ length (laid form site place count items) → bytes ≡ tree_block form site place count items → IsHeaderLaid form site place count items bytes
 unfolding tree_block
 block_laid form site place count items bytes long is =
     let fill = fields_fill form.long in
-    let sp : ℕ = sum_place form in
+    let sp : ℕ = crc_place form in
     let all : List ℕ = laid form site place count items in
     let sum : List ℕ = little_bytes 4 (checksum_of (without_four sp all)) in
     record {
       before = ap (take sp) is ∙ ap (take sp) (append_assoc (take sp all) sum (drop (sp + length sum) all))
           ∙ take_at (take sp all) _ sp (length-take-le sp all (omega (arith, fill, long)));
-      behind = ap (drop (sp + 4)) is
+      after = ap (drop (sp + 4)) is
           ∙ drop_overlaid sp (sp + 4) sum all (omega (arith, length-sum sp all)) (omega (arith, fill, long, length-sum sp all));
     }
 
 -- with the checksum they are the block
-pub laid_block : {X : Type 0} (form : Form X) (site : Site) (place : Place) (count : ℕ) (items bytes : List ℕ) → IsLaid form site place count items bytes
-    → summed (sum_place form) bytes ≡ tree_block form site place count items
+pub laid_block : {X : Type 0} (form : Form X) (site : Site) (place : Place) (count : ℕ) (items bytes : List ℕ) → IsHeaderLaid form site place count items bytes
+    → with_crc (crc_place form) bytes ≡ tree_block form site place count items
 unfolding tree_block
-laid_block form site place count items bytes is = summed_same (sum_place form) bytes (laid form site place count items) is.before is.behind
+laid_block form site place count items bytes is = summed_same (crc_place form) bytes (laid form site place count items) is.before is.after
 
--- and a block of a tree passes the tests, and holds its items, its count and its neighbours
+-- and a block of a tree passes the tests, and holds its items, its count and its siblings
 pub record IsRead {X : Type 0} (form : Form X) (site : Site) (place : Place) (count : ℕ) (items bytes : List ℕ) : Type 0 where
-  pub framed : place.level < 2 ^ 16 → IsFramed form site place.number place.level bytes
+  pub framed : place.level < 2 ^ 16 → HasHeader form site place.number place.level bytes
   pub rest : drop (header_size form) bytes ≡ rest_of form items
   pub same_count : count < 2 ^ 16 → count_in bytes ≡ count
   pub same_left : Names (pointer_size form) place.left → left_in form bytes ≡ place.left
   pub same_right : Names (pointer_size form) place.right → right_in form bytes ≡ place.right
-  pub left_part : part 8 (pointer_size form) bytes ≡ neighbour (pointer_size form) place.left
-  pub right_part : part (8 + pointer_size form) (pointer_size form) bytes ≡ neighbour (pointer_size form) place.right
+  pub left_part : part 8 (pointer_size form) bytes ≡ sibling (pointer_size form) place.left
+  pub right_part : part (8 + pointer_size form) (pointer_size form) bytes ≡ sibling (pointer_size form) place.right
 
 pub block_read : {X : Type 0} (form : Form X) (site : Site) (place : Place) (count : ℕ) (items bytes : List ℕ) → length site.uuid ≡ 16
     → header_size form + length items ≤ BLOCK_BYTES → bytes ≡ tree_block form site place count items → IsRead form site place count items bytes
@@ -238,21 +238,21 @@ unfolding tree_block
 block_read form site place count items bytes identified room is =
     let fill = fields_fill form.long in
     let p : ℕ = pointer_size form in
-    let sp : ℕ = sum_place form in
+    let sp : ℕ = crc_place form in
     let all : List ℕ = laid form site place count items in
     let long : length all ≡ BLOCK_BYTES =
-    length-filled BLOCK_BYTES (header form site place count ++ items)
+    length-zero_padded BLOCK_BYTES (header form site place count ++ items)
     (omega (arith, room, length-append (header form site place count) items, length-header form site place count identified)) in
     let same = block_laid form site place count items bytes (omega (arith, long)) is in
     let before = same.before in
-    let behind = same.behind in
+    let after = same.after in
     let zeros : ℕ = header_size form - (sp + 4) in
-    let after : drop (sp + 4) bytes ≡ replicate zeros 0 ++ rest_of form items = behind ∙ laid_behind form site place count items identified in
+    let zeros_after : drop (sp + 4) bytes ≡ replicate zeros 0 ++ rest_of form items = after ∙ laid_after form site place count items identified in
     let size : sp + 4 + zeros ≡ header_size form = omega (arith, fill) in
-    let left = length-neighbour p place.left in
-    let right = length-neighbour p place.right in
+    let left = length-sibling p place.left in
+    let right = length-sibling p place.right in
     let start : List ℕ = big_bytes 4 form.magic ++ big_bytes 2 place.level ++ big_bytes 2 count in
-    let linked : List ℕ = start ++ neighbour p place.left ++ neighbour p place.right in
+    let linked : List ℕ = start ++ sibling p place.left ++ sibling p place.right in
     let placed : List ℕ = linked ++ big_bytes 8 ((site.first + place.number) * 8) in
     let unlogged : List ℕ = placed ++ big_bytes 8 0 in
     let named : List ℕ = unlogged ++ site.uuid in
@@ -264,14 +264,14 @@ block_read form site place count items bytes identified room is =
     let seven = parted (24 + 2 * p) 16 (40 + 2 * p) bytes unlogged _ (omega arith) length_unlogged eight.0 in
     let six = parted (16 + 2 * p) 8 (24 + 2 * p) bytes placed _ (omega arith) length_placed seven.0 in
     let five = parted (8 + 2 * p) 8 (16 + 2 * p) bytes linked _ (omega arith) length_linked six.0 in
-    let four = parted (8 + p) p (8 + 2 * p) bytes (start ++ neighbour p place.left) _ (omega arith) (simp length-append (omega (arith, left))) five.0 in
+    let four = parted (8 + p) p (8 + 2 * p) bytes (start ++ sibling p place.left) _ (omega arith) (simp length-append (omega (arith, left))) five.0 in
     let three = parted 8 p (8 + p) bytes start _ refl refl four.0 in
     let two = parted 6 2 8 bytes (big_bytes 4 form.magic ++ big_bytes 2 place.level) _ refl refl three.0 in
     let one = parted 4 2 6 bytes (big_bytes 4 form.magic) _ refl refl two.0 in
     record {
       framed = λ low. record {
         magic = one.0;
-        checked = is ∙ sym (summed_same sp bytes all before behind);
+        checked = is ∙ sym (summed_same sp bytes all before after);
         fields = record {
           low_level = low;
           level_is = one.1;
@@ -279,10 +279,10 @@ block_read form site place count items bytes identified room is =
           unlogged = six.1;
           identified = seven.1;
           owned = eight.1;
-          zeros = ap (take zeros) after ∙ take_at (replicate zeros 0) _ zeros (length-replicate zeros 0);
+          zeros = ap (take zeros) zeros_after ∙ take_at (replicate zeros 0) _ zeros (length-replicate zeros 0);
         };
       };
-      rest = ap (λ (k : ℕ). drop k bytes) (sym size) ∙ sym (drop-drop zeros (sp + 4) bytes) ∙ ap (drop zeros) after
+      rest = ap (λ (k : ℕ). drop k bytes) (sym size) ∙ sym (drop-drop zeros (sp + 4) bytes) ∙ ap (drop zeros) zeros_after
           ∙ drop_at (replicate zeros 0) _ zeros (length-replicate zeros 0);
       same_count = λ small. sym (big_from-take 0 2 2 (drop 6 bytes) (omega arith)) ∙ ap (big_number 2) two.1 ∙ reads_alone 2 count small;
       same_left = λ names. neighbour_read form.long place.left (drop 8 bytes) names three.1;

@@ -12,20 +12,20 @@ use Rattle.std.specs.List.{All, AllPairs, concat, find, flat_map, slice_get}
 use Rattle.std.specs.Ordering.{is_ge, is_gt, is_le, is_lt, ordering_reverse}
 use Rattle.std.specs.declared.cmp.Ordering.{Ordering}
 use Rattle.std.specs.declared.cmp.Ordering.TheVariants.{Less, Equal, Greater}
-use Rattle.xr_block.specs.declared.bound.Cut.{Cut}
-use Rattle.xr_block.specs.declared.bound.Cut.TheVariants.{Start, Before, Behind}
+use Rattle.xr_block.specs.declared.bound.Bound.{Bound}
+use Rattle.xr_block.specs.declared.bound.Bound.TheVariants.{Start, Before, After}
 use Rattle.xr_block.specs.Bounds.{IsParted, IsPlaceOf, entry_is_before, is_before, key_is_before}
 use Rattle.xr_kinds.specs.Form.{Form, IsForm}
 use Rattle.xr_block.specs.Leaf.{IsLeaf}
 use Rattle.xr_block.specs.NodeEntries.{child_in, high_key_in, key_in, low_key_from, low_key_in}
 use Rattle.xr_block.specs.NodeEntryLaws.{count_of_block, entry_read, length-entries}
 use Rattle.xr_pool.specs.Overlay.{Blocks, block_at, pool_size}
-use Rattle.xr_block.specs.Rows.{key_held, AreRowsOf, IsWholeLeaf, IsWholeNode, half, named_below, rows_from}
+use Rattle.xr_block.specs.Rows.{key_held, AreRowsOf, IsWholeLeaf, IsWholeNode, min_records, named_below, rows_from}
 use Rattle.xr_block.specs.Tree.{site_of, tree_held, tree_records}
 use Rattle.xr_block.specs.TreeBlock.{Entry, count_in, entries_in, records_in}
 use Rattle.xr_block.specs.Under.{IsUnder}
-use Rattle.xr_block.specs.UnderLaws.{HasFirst, child_in_row, half_some, has_first, leaf_records, linked_at, named_at, node_records}
-use Rattle.xr_block.specs.PartLaws.{Begins, all_of_part, all_left, all_right, find_behind, front_of_place, front_passes, last_at, last_of_none, last_of_part, last_of_parted, none_found, pairs_next, pairs_of_part, parted, some_found}
+use Rattle.xr_block.specs.UnderLaws.{HasFirst, child_in_row, min_records_some, has_first, leaf_records, linked_at, named_at, node_records}
+use Rattle.xr_block.specs.PartLaws.{Begins, all_of_part, all_left, all_right, find_after, front_of_place, front_passes, last_at, last_of_none, last_of_part, last_of_parted, none_found, pairs_next, pairs_of_part, parted, some_found}
 
 pub less_if : (o : Ordering) → is_lt o ≡ true → o ≡ Less
 less_if Less is = refl
@@ -45,17 +45,17 @@ turned Greater = (refl, refl)
 
 module _ {X : Type 0} (form : Form X) (laws : IsForm form) where
   -- what is less than a record before a place stands before it too
-  pub falls : (cut : Cut X) (x y : X) → form.order x y ≡ Less → is_before form cut y ≡ true → is_before form cut x ≡ true
+  pub falls : (bound : Bound X) (x y : X) → form.order x y ≡ Less → is_before form bound y ≡ true → is_before form bound x ≡ true
   falls Start x y less is = is
   falls (Before r) x y less is = ap is_lt (laws.total.trans x y r less (less_if (form.order y r) is))
-  falls (Behind r) x y less is = ap is_le (lower_too form.order laws.total x y r (form.order y r) refl is less)
+  falls (After r) x y less is = ap is_le (lower_too form.order laws.total x y r (form.order y r) refl is less)
 
   -- a key tells of the record that it is from
-  key_tells : (cut : Cut X) (f : X) → form.is_valid f ≡ true → key_is_before form cut (form.low_of f) ≡ is_before form cut f
+  key_tells : (bound : Bound X) (f : X) → form.is_valid f ≡ true → key_is_before form bound (form.low_of f) ≡ is_before form bound f
   key_tells Start f good = refl
   key_tells (Before r) f good =
       let both = turned (form.order f r) in ap is_gt (laws.keys_follow r f good ∙ laws.total.antisymm r f) ∙ both.0
-  key_tells (Behind r) f good =
+  key_tells (After r) f good =
       let both = turned (form.order f r) in ap is_ge (laws.keys_follow r f good ∙ laws.total.antisymm r f) ∙ both.1
 
 -- the block is one of the pool
@@ -79,9 +79,9 @@ module _ {X : Type 0} (form : Form X) (laws : IsForm form) (b : Blocks) (n : ℕ
       (omega (arith, whole.most_items, laws.leaf_few)) in
       subst (λ (k : ℕ). IsLeaf form (block_at b k)) linked.1 (record { counted = sym count; few = omega (arith, count, whole.most_items) })
 
-  pub leaf_parted : (cut : Cut X) → IsParted (is_before form cut) (records_in form (block_at b n))
-  leaf_parted cut i j d before within =
-      falls form laws cut _ _ ((subst (AllPairs (λ (x y : X). form.order x y ≡ Less)) (leaf_records (tree_held form b) n) here.ascend) i j d before within)
+  pub leaf_parted : (bound : Bound X) → IsParted (is_before form bound) (records_in form (block_at b n))
+  leaf_parted bound i j d before within =
+      falls form laws bound _ _ ((subst (AllPairs (λ (x y : X). form.order x y ≡ Less)) (leaf_records (tree_held form b) n) here.ascend) i j d before within)
 
 module _ {X : Type 0} (form : Form X) (laws : IsForm form) (b : Blocks) (top level n : ℕ) (above : top ≡ suc level) (of_top : IsUnder form b top n) where
   pub node : IsUnder form b (suc level) n
@@ -116,7 +116,7 @@ module _ {X : Type 0} (form : Form X) (laws : IsForm form) (b : Blocks) (top lev
   child_under k d within =
       let below : List ℕ = flat_map (named_below (tree_held form b)) node.row in
       record {
-        least = half form level;
+        least = min_records form level;
         row = below;
         within = child_in_row form laws (site_of b) (block_at b) (tree_held form b) node.row n k d node.within within;
         rows = node.rows.2;
@@ -130,8 +130,8 @@ module _ {X : Type 0} (form : Form X) (laws : IsForm form) (b : Blocks) (top lev
   pub first_under : (k : ℕ) (d : Entry) → k < length entries → (let e = get_or entries k d in HasFirst form (tree_held form b) level e.child)
   unfolding AreRowsOf
   first_under k d within =
-      has_first form laws (site_of b) (block_at b) (tree_held form b) (half form level) level (flat_map (named_below (tree_held form b)) node.row) _
-      (half_some form laws level) node.rows.2 (child_in_row form laws (site_of b) (block_at b) (tree_held form b) node.row n k d node.within within)
+      has_first form laws (site_of b) (block_at b) (tree_held form b) (min_records form level) level (flat_map (named_below (tree_held form b)) node.row) _
+      (min_records_some form laws level) node.rows.2 (child_in_row form laws (site_of b) (block_at b) (tree_held form b) node.row n k d node.within within)
 
   pub named : (k : ℕ) (d : Entry) → k < length entries → (let e = get_or entries k d in e.key ≡ key_held form (tree_held form b) level e.child)
   unfolding AreRowsOf
@@ -143,19 +143,19 @@ module _ {X : Type 0} (form : Form X) (laws : IsForm form) (b : Blocks) (top lev
       let own = child_under k d within in
       (subst (All (λ (r : X). form.is_valid r ≡ true)) child.records own.valid) 0 child.first (omega arith)
 
-  pub begin : (cut : Cut X) → All (Begins under (entry_is_before form cut) (is_before form cut)) entries
-  begin cut k d within =
+  pub begin : (bound : Bound X) → All (Begins under (entry_is_before form bound) (is_before form bound)) entries
+  begin bound k d within =
       let child = first_under k d within in
       record {
         first = child.first;
         others = child.others;
         part = child.records;
-        same = ap (λ (key : List ℕ). key_is_before form cut (take form.low key)) (named k d within)
-            ∙ ap (key_is_before form cut) child.key ∙ key_tells form laws cut child.first (first_good k d within);
+        same = ap (λ (key : List ℕ). key_is_before form bound (take form.low key)) (named k d within)
+            ∙ ap (key_is_before form bound) child.key ∙ key_tells form laws bound child.first (first_good k d within);
       }
 
-  pub node_parted : (cut : Cut X) → IsParted (entry_is_before form cut) entries
-  node_parted cut = parted (λ (x y : X). form.order x y ≡ Less) under (entry_is_before form cut) (is_before form cut) (falls form laws cut) entries (begin cut)
+  pub node_parted : (bound : Bound X) → IsParted (entry_is_before form bound) entries
+  node_parted bound = parted (λ (x y : X). form.order x y ≡ Less) under (entry_is_before form bound) (is_before form bound) (falls form laws bound) entries (begin bound)
       all_ascend
 
 -- the child that is read at a place of a node

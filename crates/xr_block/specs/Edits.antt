@@ -3,12 +3,12 @@ use Rattle.std.specs.Prelude.{◌≡◌, ℕ, ◌+◌, ◌≤◌, true, Option, 
 use Rattle.std.specs.List.{All}
 use Rattle.xr_block.specs.BlockLaws.{AreEntries}
 use Rattle.xr_kinds.specs.Form.{Form}
-use Rattle.xr_block.specs.TreeBlock.{Entry, Place, Site, leaf_bytes, node_bytes, sum_place, summed}
+use Rattle.xr_block.specs.TreeBlock.{Entry, Place, Site, leaf_bytes, node_bytes, crc_place, with_crc}
 use Rattle.xr_block.specs.declared.header.Header.{Header}
 
 -- the bytes with their checksum
 abbrev pub sealed : {X : Type 0} → Form X → List ℕ → List ℕ
-sealed form bytes = summed (sum_place form) bytes
+sealed form bytes = with_crc (crc_place form) bytes
 
 -- a whole leaf with these records
 pub record IsLeafOf {X : Type 0} (form : Form X) (site : Site) (place : Place) (records : List X) (bytes : List ℕ) : Type 0 where
@@ -34,7 +34,7 @@ pub record IsHeader (fields : Header) (site : Site) (place : Place) : Type 0 whe
   pub owner : fields.owner ≡ site.owner
   pub uuid : fields.uuid ≡ site.uuid
 
--- a place with another neighbour
+-- a place with another sibling
 abbrev pub with_left : Option ℕ → Place → Place
 with_left left place = record { number = place.number; level = place.level; left = left; right = place.right }
 

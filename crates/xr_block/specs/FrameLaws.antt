@@ -8,7 +8,7 @@ use Rattle.std.specs.List.{All, AllPairs, Contains, concat, flat_map}
 use Rattle.xr_kinds.specs.Form.{Form}
 use Rattle.xr_block.specs.Frame.{ChangesOnly, Stays}
 use Rattle.xr_pool.specs.Overlay.{Blocks, block_at, is_free, pool_size}
-use Rattle.xr_block.specs.Rows.{AreLinked, AreNamed, AreRowsOf, IsWhole, IsWholeLeaf, IsWholeNode, first_of, half, held_in, key_held, key_of_entries, key_of_records, leaves_from, named_below, rows_from}
+use Rattle.xr_block.specs.Rows.{AreLinked, AreNamed, AreRowsOf, IsWhole, IsWholeLeaf, IsWholeNode, first_of, min_records, held_in, key_held, key_of_entries, key_of_records, leaves_from, named_below, rows_from}
 use Rattle.xr_block.specs.Tree.{AreRecords, IsTreeIn, IsUsed, least_of_root, site_of, tree_blocks, tree_held, tree_records}
 use Rattle.xr_block.specs.TreeBlock.{Entry, Place, Site, entries_in, leaf_bytes, node_bytes, records_in}
 
@@ -149,8 +149,8 @@ module _ {X : Type 0} (form : Form X) (at now : ℕ → List ℕ) where
         linked_same (IsWholeNode form site (held_in form at) least) (IsWholeNode form site (held_in form now) least) (suc level) None row None
             (λ place within. node_same site least place (here place.number within)) rows.0,
         named_same level row here (first_row level below under) rows.1,
-        subst (AreRowsOf form site now (held_in form now) (half form level) level) (sym (below_same row here))
-            (are_rows_same site (half form level) level below under rows.2),
+        subst (AreRowsOf form site now (held_in form now) (min_records form level) level) (sym (below_same row here))
+            (are_rows_same site (min_records form level) level below under rows.2),
       )
 
 module _ {X : Type 0} (form : Form X) (before after : Blocks) (root level : ℕ) (old new : List ℕ) (tree : IsTreeIn form before root level) (change : ChangesOnly before old after new) (own : (n : ℕ) → Contains (tree_blocks form before root level) n → ¬ (Contains old n)) where

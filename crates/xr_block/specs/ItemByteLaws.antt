@@ -6,21 +6,21 @@ use Rattle.std.proofs.lemmas.List.{append_assoc, drop_at, drop-drop, drop-replic
 use Rattle.std.proofs.lemmas.List.Elements.{All-drop, All-tail, All-take}
 use Rattle.std.specs.List.{All, flat_map, insert, remove}
 use Rattle.xr_base.specs.Image.{overlaid, part}
-use Rattle.xr_block.specs.TreeBlock.{filled}
+use Rattle.xr_block.specs.TreeBlock.{zero_padded}
 use Rattle.xr_block.specs.ItemBytes.{with_item, without_item}
 
--- bytes with zeros behind them, cut in two
-filled_is : (n : ℕ) (xs ys : List ℕ) → filled n (xs ++ ys) ≡ xs ++ (ys ++ replicate (n - (length xs + length ys)) 0)
+-- bytes with zeros after them, bound in two
+filled_is : (n : ℕ) (xs ys : List ℕ) → zero_padded n (xs ++ ys) ≡ xs ++ (ys ++ replicate (n - (length xs + length ys)) 0)
 filled_is n xs ys = ap (λ (m : ℕ). xs ++ ys ++ replicate (n - m) 0) (length-append xs ys) ∙ append_assoc xs ys _
 
 pub put_bytes : (n at end : ℕ) (xs ys item : List ℕ) → length xs ≡ at → length xs + length ys ≡ end → end + length item ≤ n
-    → with_item at end item (filled n (xs ++ ys)) ≡ filled n (xs ++ (item ++ ys))
+    → with_item at end item (zero_padded n (xs ++ ys)) ≡ zero_padded n (xs ++ (item ++ ys))
 put_bytes n at end xs ys item long all room =
     let zeros : List ℕ = replicate (n - (length xs + length ys)) 0 in
     let bytes : List ℕ = xs ++ (ys ++ zeros) in
     let size : end - at ≡ length ys = omega (arith, long, all) in
-    let behind : drop at bytes ≡ ys ++ zeros = drop_at xs (ys ++ zeros) at long in
-    let middle : part at (end - at) bytes ≡ ys = ap (take (end - at)) behind ∙ take_at ys zeros (end - at) (sym size) in
+    let after : drop at bytes ≡ ys ++ zeros = drop_at xs (ys ++ zeros) at long in
+    let middle : part at (end - at) bytes ≡ ys = ap (take (end - at)) after ∙ take_at ys zeros (end - at) (sym size) in
     let past : drop (end + length item) bytes ≡ replicate (n - (length xs + length (item ++ ys))) 0 =
     ap (λ (m : ℕ). drop m bytes) (let e : end + length item ≡ length xs + (length ys + length item) = omega (arith, all) in e)
     ∙ drop-append-add xs (ys ++ zeros) (length ys + length item) ∙ drop-append-add ys zeros (length item)
@@ -29,16 +29,16 @@ put_bytes n at end xs ys item long all room =
     ap (with_item at end item) (filled_is n xs ys)
     ∙ rw (take_at xs (ys ++ zeros) at long, middle, past) (sym (filled_is n xs (item ++ ys) ∙ ap (λ (rest : List ℕ). xs ++ rest) (append_assoc item ys _)))
 
-pub cut_bytes : (n at end size : ℕ) (xs item ys : List ℕ) → length xs ≡ at → length item ≡ size → length xs + (size + length ys) ≡ end → end ≤ n
-    → without_item at end size (filled n (xs ++ (item ++ ys))) ≡ filled n (xs ++ ys)
-cut_bytes n at end size xs item ys long sized all room =
+pub removed_bytes : (n at end size : ℕ) (xs item ys : List ℕ) → length xs ≡ at → length item ≡ size → length xs + (size + length ys) ≡ end → end ≤ n
+    → without_item at end size (zero_padded n (xs ++ (item ++ ys))) ≡ zero_padded n (xs ++ ys)
+removed_bytes n at end size xs item ys long sized all room =
     let zeros : List ℕ = replicate (n - (length xs + length (item ++ ys))) 0 in
     let bytes : List ℕ = xs ++ (item ++ ys ++ zeros) in
     let both : length (item ++ ys) ≡ size + length ys = length-append item ys ∙ omega (arith, sized) in
-    let behind : drop (at + size) bytes ≡ ys ++ zeros =
+    let after : drop (at + size) bytes ≡ ys ++ zeros =
     sym (drop-drop size at bytes) ∙ ap (drop size) (drop_at xs (item ++ ys ++ zeros) at long ∙ append_assoc item ys zeros) ∙ drop_at item (ys ++ zeros) size sized in
     let count : end - (at + size) ≡ length ys = omega (arith, all, long) in
-    let middle : part (at + size) (end - (at + size)) bytes ≡ ys = ap (take (end - (at + size))) behind ∙ take_at ys zeros (end - (at + size)) (sym count) in
+    let middle : part (at + size) (end - (at + size)) bytes ≡ ys = ap (take (end - (at + size))) after ∙ take_at ys zeros (end - (at + size)) (sym count) in
     let past : drop end bytes ≡ zeros =
     ap (λ (m : ℕ). drop m bytes) (let e : end ≡ length xs + (length (item ++ ys) + 0) = omega (arith, all, both) in e)
     ∙ drop-append-add xs (item ++ ys ++ zeros) (length (item ++ ys) + 0) ∙ drop-append-add (item ++ ys) zeros 0 in
@@ -49,7 +49,7 @@ cut_bytes n at end size xs item ys long sized all room =
     ∙ rw (take_at xs (item ++ ys ++ zeros) at long, middle, past, more) (sym (filled_is n xs ys))
 
 pub set_bytes : (n at : ℕ) (xs old item ys : List ℕ) → length xs ≡ at → length item ≡ length old
-    → overlaid at item (filled n (xs ++ (old ++ ys))) ≡ filled n (xs ++ (item ++ ys))
+    → overlaid at item (zero_padded n (xs ++ (old ++ ys))) ≡ zero_padded n (xs ++ (item ++ ys))
 set_bytes n at xs old item ys long same =
     let zeros : List ℕ = replicate (n - (length xs + length (old ++ ys))) 0 in
     let bytes : List ℕ = xs ++ (old ++ ys ++ zeros) in
@@ -122,19 +122,19 @@ module _ {I : Type 0} (bytes_of : I → List ℕ) (size : ℕ) where
       split_bytes items k ∙ ap (λ (xs : List I). flat_map bytes_of (take k items) ++ flat_map bytes_of xs) (drop-cons items k d within)
 
   pub put_items : (n k : ℕ) (items : List I) (i : I) → AreSized items → length (bytes_of i) ≡ size → k ≤ length items → size * (length items + 1) ≤ n
-      → with_item (size * k) (size * length items) (bytes_of i) (filled n (flat_map bytes_of items)) ≡ filled n (flat_map bytes_of (insert items k i))
+      → with_item (size * k) (size * length items) (bytes_of i) (zero_padded n (flat_map bytes_of items)) ≡ zero_padded n (flat_map bytes_of (insert items k i))
   put_items n k items i all one within room =
       let front : List ℕ = flat_map bytes_of (take k items) in
       let rest : List ℕ = flat_map bytes_of (drop k items) in
       let whole : length front + length rest ≡ size * length items = sym (length-append front rest) ∙ ap length (sym (split_bytes items k)) ∙ length-sized items all in
-      ap (λ (xs : List ℕ). with_item (size * k) (size * length items) (bytes_of i) (filled n xs)) (split_bytes items k)
+      ap (λ (xs : List ℕ). with_item (size * k) (size * length items) (bytes_of i) (zero_padded n xs)) (split_bytes items k)
       ∙ put_bytes n (size * k) (size * length items) front rest (bytes_of i) (length-first items k all within) whole (omega (arith, one, room))
-      ∙ ap (filled n) (sym (flat_map-append bytes_of (take k items) (i ∷ drop k items)))
+      ∙ ap (zero_padded n) (sym (flat_map-append bytes_of (take k items) (i ∷ drop k items)))
 
-  pub cut_items : (n k : ℕ) (items : List I) → AreSized items → k < length items → size * length items ≤ n
-      → without_item (size * k) (size * length items) size (filled n (flat_map bytes_of items)) ≡ filled n (flat_map bytes_of (remove items k))
-  cut_items n k [] all within room = absurd (omega arith)
-  cut_items n k (first ∷ others) all within room =
+  pub removed_items : (n k : ℕ) (items : List I) → AreSized items → k < length items → size * length items ≤ n
+      → without_item (size * k) (size * length items) size (zero_padded n (flat_map bytes_of items)) ≡ zero_padded n (flat_map bytes_of (remove items k))
+  removed_items n k [] all within room = absurd (omega arith)
+  removed_items n k (first ∷ others) all within room =
       let items : List I = first ∷ others in
       let front : List ℕ = flat_map bytes_of (take k items) in
       let item : List ℕ = bytes_of (get_or items k first) in
@@ -142,18 +142,18 @@ module _ {I : Type 0} (bytes_of : I → List ℕ) (size : ℕ) where
       let split = split_at items k first within in
       let whole : length front + (size + length rest) ≡ size * length items =
       omega (arith, length-append front (item ++ rest), length-append item rest, all k first within, ap length split, length-sized items all) in
-      ap (λ (xs : List ℕ). without_item (size * k) (size * length items) size (filled n xs)) split
-      ∙ cut_bytes n (size * k) (size * length items) size front item rest (length-first items k all (omega arith)) (all k first within) whole room
-      ∙ ap (filled n) (sym (flat_map-append bytes_of (take k items) (drop (suc k) items)))
+      ap (λ (xs : List ℕ). without_item (size * k) (size * length items) size (zero_padded n xs)) split
+      ∙ removed_bytes n (size * k) (size * length items) size front item rest (length-first items k all (omega arith)) (all k first within) whole room
+      ∙ ap (zero_padded n) (sym (flat_map-append bytes_of (take k items) (drop (suc k) items)))
 
   pub set_items : (n k : ℕ) (items : List I) (i : I) → AreSized items → length (bytes_of i) ≡ size → k < length items
-      → overlaid (size * k) (bytes_of i) (filled n (flat_map bytes_of items)) ≡ filled n (flat_map bytes_of (slice_set items k i))
+      → overlaid (size * k) (bytes_of i) (zero_padded n (flat_map bytes_of items)) ≡ zero_padded n (flat_map bytes_of (slice_set items k i))
   set_items n k [] i all one within = absurd (omega arith)
   set_items n k (first ∷ others) i all one within =
       let items : List I = first ∷ others in
       let front : List ℕ = flat_map bytes_of (take k items) in
       let old : List ℕ = bytes_of (get_or items k first) in
       let rest : List ℕ = flat_map bytes_of (drop (suc k) items) in
-      ap (λ (xs : List ℕ). overlaid (size * k) (bytes_of i) (filled n xs)) (split_at items k first within)
+      ap (λ (xs : List ℕ). overlaid (size * k) (bytes_of i) (zero_padded n xs)) (split_at items k first within)
       ∙ set_bytes n (size * k) front old (bytes_of i) rest (length-first items k all (omega arith)) (one ∙ sym (all k first within))
-      ∙ ap (filled n) (sym (flat_map-append bytes_of (take k items) (i ∷ drop (suc k) items)) ∙ ap (flat_map bytes_of) (sym (set_split items k i within)))
+      ∙ ap (zero_padded n) (sym (flat_map-append bytes_of (take k items) (i ∷ drop (suc k) items)) ∙ ap (flat_map bytes_of) (sym (set_split items k i within)))

@@ -11,13 +11,13 @@ use Rattle.byteorder.specs.Numbers.{big_from-take, length-bytes_high_first}
 use Rattle.xr_base.specs.Image.{part}
 use Rattle.xr_base.specs.declared.geometry.TheConstants.{BLOCK_BYTES}
 use Rattle.xr_kinds.specs.BigEndianLaws.{bytes_again, dropped_bytes, taken_bytes}
-use Rattle.xr_block.specs.BlockLaws.{length-filled, length-items}
-use Rattle.xr_block.specs.Checks.{AreZeros, HasRecords, HoldsRecords, IsFramed, IsTestedLeaf, IsTestedNode, place_in}
+use Rattle.xr_block.specs.BlockLaws.{length-zero_padded, length-items}
+use Rattle.xr_block.specs.Checks.{AreZeros, HasRecords, HoldsRecords, HasHeader, IsCheckedLeaf, IsCheckedNode, place_in}
 use Rattle.xr_kinds.specs.Form.{Form, IsForm, header_size, key_size, pointer_size}
 use Rattle.xr_base.specs.Fields.{AreBytes}
 use Rattle.xr_block.specs.NodeEntryLaws.{length-entries}
 use Rattle.xr_block.specs.Rows.{IsWhole}
-use Rattle.xr_block.specs.TreeBlock.{Entry, Place, Site, count_in, entries_from, entries_in, filled, leaf_bytes, node_bytes, node_items, records_from, records_in, tree_block}
+use Rattle.xr_block.specs.TreeBlock.{Entry, Place, Site, count_in, entries_from, entries_in, zero_padded, leaf_bytes, node_bytes, node_items, records_from, records_in, tree_block}
 use Rattle.xr_block.specs.CheckLaws.{IsRead, block_read, framed_block, rest_of}
 
 -- n records stand in some bytes
@@ -92,12 +92,12 @@ records_all form (suc n) bytes long (suc k) within =
     rw (next, ← drop-drop (form.size * k) form.size bytes)
     (records_all form n rest (omega (arith, long, length-append (option_to_list o) (records_from form n rest), few_listed o, few_records form n rest)) k (omega arith))
 
--- items with zeros behind them, from a header's end on
+-- items with zeros after them, from a header's end on
 rest_from : {X : Type 0} (form : Form X) (items bytes : List ℕ) (m : ℕ) → length bytes ≡ BLOCK_BYTES → length items ≡ m
     → take m (drop (header_size form) bytes) ≡ items → AreZeros (drop (header_size form + m) bytes) → drop (header_size form) bytes ≡ rest_of form items
 rest_from form items bytes m long size front zeros =
-    let behind : List ℕ = drop (header_size form + m) bytes in
-    let room : length behind ≡ BLOCK_BYTES - (header_size form + length items) = length-drop (header_size form + m) bytes ∙ omega (arith, long, size) in
+    let after : List ℕ = drop (header_size form + m) bytes in
+    let room : length after ≡ BLOCK_BYTES - (header_size form + length items) = length-drop (header_size form + m) bytes ∙ omega (arith, long, size) in
     sym (take-append-drop m (drop (header_size form) bytes))
     ∙ ap (λ (xs : List ℕ). xs ++ drop m (drop (header_size form) bytes)) front
     ∙ ap (λ (xs : List ℕ). items ++ xs) (drop-drop m (header_size form) bytes ∙ zeros ∙ ap (λ (n : ℕ). replicate n 0) room)
@@ -117,7 +117,7 @@ read_at form bytes k = ap (λ (xs : List ℕ). form.taken (take form.size xs)) (
 
 -- a leaf
 pub leaf_whole : {X : Type 0} (form : Form X) (laws : IsForm form) (site : Site) (least n : ℕ) (bytes : List ℕ) → length site.uuid ≡ 16
-    → length bytes ≡ BLOCK_BYTES → AreBytes bytes → IsTestedLeaf form site least n bytes
+    → length bytes ≡ BLOCK_BYTES → AreBytes bytes → IsCheckedLeaf form site least n bytes
     → IsWhole least form.leaf_max (leaf_bytes form site) (records_in form bytes) (place_in form n 0 bytes) bytes
 leaf_whole form laws site least n bytes identified long all tested =
     let count : ℕ = count_in bytes in
@@ -167,13 +167,13 @@ leaf_holds form laws site least place bytes identified whole =
       },
     )
 
-pub leaf_tested : {X : Type 0} (form : Form X) (laws : IsForm form) (site : Site) (least : ℕ) (place : Place) (bytes : List ℕ) → length site.uuid ≡ 16
-    → place.level ≡ 0 → IsWhole least form.leaf_max (leaf_bytes form site) (records_in form bytes) place bytes → IsTestedLeaf form site least place.number bytes
-leaf_tested form laws site least place bytes identified low whole =
+pub leaf_checked : {X : Type 0} (form : Form X) (laws : IsForm form) (site : Site) (least : ℕ) (place : Place) (bytes : List ℕ) → length site.uuid ≡ 16
+    → place.level ≡ 0 → IsWhole least form.leaf_max (leaf_bytes form site) (records_in form bytes) place bytes → IsCheckedLeaf form site least place.number bytes
+leaf_checked form laws site least place bytes identified low whole =
     let read = leaf_read form laws site least place bytes identified whole in
     let holds = leaf_holds form laws site least place bytes identified whole in
     record {
-      framed = subst (λ (level : ℕ). IsFramed form site place.number level bytes) low (read.framed (omega (arith, low)));
+      framed = subst (λ (level : ℕ). HasHeader form site place.number level bytes) low (read.framed (omega (arith, low)));
       least_items = omega (arith, holds.0, whole.least_items);
       most_items = omega (arith, holds.0, whole.most_items);
       records = holds.1;
@@ -203,7 +203,7 @@ entry_pointers key width (suc n) keys pointers fits all =
     ∙ sym (take-add width (width * n) pointers) ∙ ap (λ (k : ℕ). take k pointers) (sym next)
 
 pub node_whole : {X : Type 0} (form : Form X) (laws : IsForm form) (site : Site) (least n level : ℕ) (bytes : List ℕ) → length site.uuid ≡ 16
-    → length bytes ≡ BLOCK_BYTES → AreBytes bytes → IsTestedNode form site least n level bytes
+    → length bytes ≡ BLOCK_BYTES → AreBytes bytes → IsCheckedNode form site least n level bytes
     → IsWhole least form.node_max (node_bytes form site) (entries_in form bytes) (place_in form n level bytes) bytes
 node_whole form laws site least n level bytes identified long all tested =
     let count : ℕ = count_in bytes in
@@ -231,13 +231,13 @@ node_whole form laws site least n level bytes identified long all tested =
     length-take-le gap (drop (key * count) xs) (omega (arith, few, fits, length-drop (key * count) xs)) ∙ omega (arith, length_keys) in
     let between : part (key * count) gap xs ≡ replicate (room - length keys) 0 =
     subst AreZeros same tested.room.between ∙ ap (λ (k : ℕ). replicate k 0) length_gap in
-    let filled_keys : take room xs ≡ filled room keys =
+    let filled_keys : take room xs ≡ zero_padded room keys =
     ap (λ (k : ℕ). take k xs) (let e : room ≡ key * count + gap = omega (arith, few) in e)
     ∙ take-add (key * count) gap xs ∙ ap (λ (ys : List ℕ). ys ++ part (key * count) gap xs) (sym keys_are)
     ∙ ap (λ (ys : List ℕ). keys ++ ys) between in
     let items_are : take (room + width * count) xs ≡ node_items form entries =
     take-add room (width * count) xs ∙ ap (λ (ys : List ℕ). ys ++ take (width * count) (drop room xs)) filled_keys
-    ∙ ap (λ (ys : List ℕ). filled room keys ++ ys) (sym pointers_are) in
+    ∙ ap (λ (ys : List ℕ). zero_padded room keys ++ ys) (sym pointers_are) in
     let length_items : length (node_items form entries) ≡ room + width * count =
     sym (ap length items_are) ∙ length-take-le (room + width * count) xs (omega (arith, narrow, fits)) in
     let rest = rest_from form (node_items form entries) bytes (room + width * count) long length_items items_are
@@ -260,10 +260,10 @@ node_room form laws entries keys long fits few =
     let room : ℕ = form.node_max * key_size form in
     let listed : List ℕ = flat_map (λ (e : Entry). e.key) entries in
     let size : length (node_items form entries) ≡ room + length entries * width =
-    length-append (filled room listed) (flat_map (λ (e : Entry). big_bytes width e.child) entries)
+    length-append (zero_padded room listed) (flat_map (λ (e : Entry). big_bytes width e.child) entries)
     ∙ omega (
       arith,
-      length-filled room listed (omega (arith, long, fits)),
+      length-zero_padded room listed (omega (arith, long, fits)),
       length-items (λ (e : Entry). big_bytes width e.child) width entries (λ e. length-bytes_high_first width e.child),
     ) in
     (size, omega (arith, laws.node_fits, narrow, size))
@@ -298,10 +298,10 @@ node_read form laws site least place bytes identified long whole =
       read = block_read form site place (length entries) (node_items form entries) bytes identified both.1 whole.whole;
     }
 
-pub node_tested : {X : Type 0} (form : Form X) (laws : IsForm form) (site : Site) (least : ℕ) (place : Place) (bytes : List ℕ) → length site.uuid ≡ 16
+pub node_checked : {X : Type 0} (form : Form X) (laws : IsForm form) (site : Site) (least : ℕ) (place : Place) (bytes : List ℕ) → length site.uuid ≡ 16
     → length bytes ≡ BLOCK_BYTES → place.level < 2 ^ 16 → IsWhole least form.node_max (node_bytes form site) (entries_in form bytes) place bytes
-    → IsTestedNode form site least place.number place.level bytes
-node_tested form laws site least place bytes identified long low whole =
+    → IsCheckedNode form site least place.number place.level bytes
+node_checked form laws site least place bytes identified long low whole =
     let count : ℕ = count_in bytes in
     let key : ℕ = key_size form in
     let width : ℕ = pointer_size form in
@@ -313,7 +313,7 @@ node_tested form laws site least place bytes identified long low whole =
     let node = node_read form laws site least place bytes identified long whole in
     let zeros : List ℕ = replicate (BLOCK_BYTES - (header_size form + length (node_items form entries))) 0 in
     let gap : List ℕ = replicate (room - length keys) 0 in
-    let behind : drop (key * count) xs ≡ gap ++ (pointers ++ zeros) =
+    let after : drop (key * count) xs ≡ gap ++ (pointers ++ zeros) =
     ap (drop (key * count)) (node.read.rest ∙ append_assoc (keys ++ gap) pointers zeros ∙ append_assoc keys gap (pointers ++ zeros))
     ∙ drop_at keys _ (key * count) node.length_keys in
     let size : key * form.node_max - key * count ≡ room - length keys = omega (arith, node.length_keys) in
@@ -324,7 +324,7 @@ node_tested form laws site least place bytes identified long low whole =
       room = record {
         between = are_zeros_if (part (header_size form + key * count) (key * form.node_max - key * count) bytes) (room - length keys)
             (ap (λ (k : ℕ). take k (drop (header_size form + key * count) bytes)) size
-            ∙ ap (take (room - length keys)) (sym (drop-drop (key * count) (header_size form) bytes) ∙ behind)
+            ∙ ap (take (room - length keys)) (sym (drop-drop (key * count) (header_size form) bytes) ∙ after)
             ∙ take_at gap _ (room - length keys) (length-replicate (room - length keys) 0));
         zeros = subst (λ (k : ℕ). AreZeros (drop k bytes))
             (let e : header_size form + (room + width * count) ≡ header_size form + key * form.node_max + width * count = omega arith in e)

@@ -19,11 +19,11 @@ then_same Less p q same = refl
 then_same Equal p q same = same
 then_same Greater p q same = refl
 
-pub tested_order : (xs ys : List ℕ) → is_some_and is_lt (slice_partial_cmp (λ x y. Some (nat_cmp x y)) xs ys) ≡ is_lt (slice_cmp nat_cmp xs ys)
-tested_order [] [] = refl
-tested_order [] (y ∷ ys) = refl
-tested_order (x ∷ xs) [] = refl
-tested_order (x ∷ xs) (y ∷ ys) = then_same (nat_cmp x y) _ _ (tested_order xs ys)
+pub checked_order : (xs ys : List ℕ) → is_some_and is_lt (slice_partial_cmp (λ x y. Some (nat_cmp x y)) xs ys) ≡ is_lt (slice_cmp nat_cmp xs ys)
+checked_order [] [] = refl
+checked_order [] (y ∷ ys) = refl
+checked_order (x ∷ xs) [] = refl
+checked_order (x ∷ xs) (y ∷ ys) = then_same (nat_cmp x y) _ _ (checked_order xs ys)
 
 pub nothing_less : (key : List ℕ) → greater_key key [] ≡ key
 nothing_less [] = refl
@@ -74,10 +74,10 @@ in_parts key low high n long = (
 )
 
 -- so it is right where both parts are
-pub tested_key : (all low_all high_all : Bool) (key low high whole : List ℕ) (l h n : ℕ) → l ≡ n → h ≡ n → length low ≡ n → whole ≡ low ++ high
+pub checked_key : (all low_all high_all : Bool) (key low high whole : List ℕ) (l h n : ℕ) → l ≡ n → h ≡ n → length low ≡ n → whole ≡ low ++ high
     → (IsTrue low_all ↔ (take l key ≡ low)) → (IsTrue high_all ↔ (take (length key - h) (drop h key) ≡ high))
     → (IsTrue all ↔ (IsTrue low_all × IsTrue high_all)) → IsTrue all ↔ (key ≡ whole)
-tested_key all low_all high_all key low high whole l h n is_l is_h long parts low_is high_is both_are =
+checked_key all low_all high_all key low high whole l h n is_l is_h long parts low_is high_is both_are =
     let split = in_parts key low high n long in
     let low_same : take l key ≡ take n key = ap (λ (m : ℕ). take m key) is_l in
     let high_same : take (length key - h) (drop h key) ≡ take (length key - n) (drop n key) = ap (λ (m : ℕ). take (length key - m) (drop m key)) is_h in (
@@ -91,14 +91,14 @@ unfolding key_of_records
 records_key form [] r some first = absurd (omega (arith, some))
 records_key form (x ∷ xs) r some first = ap (λ (y : _). form.low_of y ++ greatest_key (map form.high_of (x ∷ xs))) (sym (first r))
 
-pub entries_key : {X : Type 0} (form : Form X) (entries : List Entry) (key high : List ℕ) (cut : ℕ) → 0 < length entries
-    → ((d : Entry) → (get_or entries 0 d).key ≡ key) → cut ≡ form.low → high ≡ greatest_key (map (high_part form) entries)
-    → key_of_entries form entries ≡ take cut key ++ high
+pub entries_key : {X : Type 0} (form : Form X) (entries : List Entry) (key high : List ℕ) (bound : ℕ) → 0 < length entries
+    → ((d : Entry) → (get_or entries 0 d).key ≡ key) → bound ≡ form.low → high ≡ greatest_key (map (high_part form) entries)
+    → key_of_entries form entries ≡ take bound key ++ high
 unfolding key_of_entries
-entries_key form [] key high cut some first is greatest = absurd (omega (arith, some))
-entries_key form (e ∷ es) key high cut some first is greatest =
+entries_key form [] key high bound some first is greatest = absurd (omega (arith, some))
+entries_key form (e ∷ es) key high bound some first is greatest =
     ap (λ (bytes : List ℕ). take form.low bytes ++ greatest_key (map (high_part form) (e ∷ es))) (first e)
-    ∙ ap (λ (n : ℕ). take n key ++ greatest_key (map (high_part form) (e ∷ es))) (sym is) ∙ ap (λ (bytes : List ℕ). take cut key ++ bytes) (sym greatest)
+    ∙ ap (λ (n : ℕ). take n key ++ greatest_key (map (high_part form) (e ∷ es))) (sym is) ∙ ap (λ (bytes : List ℕ). take bound key ++ bytes) (sym greatest)
 
 -- a key of a node has its length
 pub length-key : {X : Type 0} (form : Form X) (laws : IsForm form) (k : ℕ) (bytes : List ℕ) → length bytes ≡ BLOCK_BYTES → k < form.node_max

@@ -21,5 +21,6 @@ pub mod Times
 pub mod TimesLaws
 pub mod Tree
 pub mod TreeBlock
+pub mod Trees
 pub mod Under
 pub mod UnderLaws

@@ -14,7 +14,7 @@ low_key_in form k bytes = take form.low (key_in form k bytes)
 abbrev pub high_key_in : {X : Type 0} → Form X → ℕ → List ℕ → List ℕ
 high_key_in form k bytes = drop form.low (key_in form k bytes)
 
--- the pointers stand behind the room for the keys
+-- the pointers stand after the room for the keys
 abbrev pub child_in : {X : Type 0} → Form X → ℕ → List ℕ → ℕ
 child_in form k bytes = big_number (pointer_size form) (drop (header_size form + form.node_max * key_size form + pointer_size form * k) bytes)
 

@@ -10,7 +10,7 @@ use Rattle.xr_base.specs.declared.geometry.TheConstants.{BLOCK_BYTES}
 use Rattle.xr_kinds.specs.BigEndianLaws.{reads_alone}
 use Rattle.xr_kinds.specs.Form.{Form, header_size, key_size, pointer_size}
 use Rattle.xr_block.specs.NodeEntries.{child_in, key_in}
-use Rattle.xr_block.specs.TreeBlock.{Entry, Place, Site, count_in, entries_from, entries_in, filled, header, sum_place, tree_block}
+use Rattle.xr_block.specs.TreeBlock.{Entry, Place, Site, count_in, entries_from, entries_in, zero_padded, header, crc_place, tree_block}
 
 behind_count : (long : Bool) → (let sum : ℕ = if long then 64 else 52 in (8 ≤ sum) × (sum + 4 ≤ BLOCK_BYTES))
 behind_count true = (omega arith, omega arith)
@@ -43,11 +43,11 @@ pub entry_read : {X : Type 0} (form : Form X) (bytes : List ℕ) (k : ℕ) (d : 
     → get_or (entries_in form bytes) k d ≡ record { key = key_in form k bytes; child = child_in form k bytes }
 entry_read form bytes k d within =
     let keys : List ℕ = drop (header_size form) bytes in
-    let behind : ℕ = form.node_max * key_size form in
+    let after : ℕ = form.node_max * key_size form in
     let place : ℕ = pointer_size form * k in
-    let sum : header_size form + (behind + place) ≡ header_size form + behind + place = omega arith in
-    entry_from (key_size form) (pointer_size form) (count_in bytes) keys (drop behind keys) k d within
-    ∙ rw (drop-drop (key_size form * k) (header_size form) bytes, drop-drop place behind keys, drop-drop (behind + place) (header_size form) bytes, sum) refl
+    let sum : header_size form + (after + place) ≡ header_size form + after + place = omega arith in
+    entry_from (key_size form) (pointer_size form) (count_in bytes) keys (drop after keys) k d within
+    ∙ rw (drop-drop (key_size form * k) (header_size form) bytes, drop-drop place after keys, drop-drop (after + place) (header_size form) bytes, sum) refl
 
 -- the count of a block that was built is the one that was written, whatever it is made of
 pub count_of_block : {X : Type 0} (form : Form X) (site : Site) (place : Place) (count : ℕ) (items : List ℕ) → count < 2 ^ 16
@@ -55,11 +55,11 @@ pub count_of_block : {X : Type 0} (form : Form X) (site : Site) (place : Place) 
 unfolding tree_block header
 count_of_block form site place count items small =
     let fields : List ℕ = header form site place count ++ items in
-    let sum : List ℕ = little_bytes 4 (checksum_of (without_four (sum_place form) (filled BLOCK_BYTES fields))) in
-    let sum_behind : (8 ≤ sum_place form) × (sum_place form + 4 ≤ BLOCK_BYTES) = behind_count form.long in
-    let long : BLOCK_BYTES ≤ length (filled BLOCK_BYTES fields) =
+    let sum : List ℕ = little_bytes 4 (checksum_of (without_four (crc_place form) (zero_padded BLOCK_BYTES fields))) in
+    let sum_behind : (8 ≤ crc_place form) × (crc_place form + 4 ≤ BLOCK_BYTES) = behind_count form.long in
+    let long : BLOCK_BYTES ≤ length (zero_padded BLOCK_BYTES fields) =
     omega (arith, length-append fields (replicate {A = ℕ} (BLOCK_BYTES - length fields) 0), length-replicate {A = ℕ} (BLOCK_BYTES - length fields) 0) in
     let field : part 6 2 (tree_block form site place count items) ≡ big_bytes 2 count =
-    part_below (sum_place form) 2 6 sum (filled BLOCK_BYTES fields) (omega (arith, sum_behind.0)) (omega (arith, sum_behind.1, long)) in
+    part_below (crc_place form) 2 6 sum (zero_padded BLOCK_BYTES fields) (omega (arith, sum_behind.0)) (omega (arith, sum_behind.1, long)) in
     sym (big_from-take 0 2 2 (drop 6 (tree_block form site place count items)) (omega arith))
     ∙ ap (big_number 2) field ∙ reads_alone 2 count small

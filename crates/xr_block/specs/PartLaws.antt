@@ -71,7 +71,7 @@ find_none test [] all = refl
 find_none test (x ∷ xs) all =
     let first : test x ≡ false = all 0 x (omega arith) in rw first (find_none test xs (λ k d within. all (suc k) d (omega arith)))
 
--- what was found first is the answer, or else what comes behind
+-- what was found first is the answer, or else what comes after
 pub some_found : {X : Type 0} (o rest : Option X) → is_some o ≡ true → o ≡ option_or o rest
 some_found None rest some = cc
 some_found (Some x) rest some = refl
@@ -81,8 +81,8 @@ none_found None rest none = refl
 none_found (Some x) rest none = cc
 
 -- nothing in front of a place passes
-pub find_behind : {X : Type 0} (test : X → Bool) (xs ys : List X) → All (λ (x : X). test x ≡ false) xs → find test ys ≡ find test (xs ++ ys)
-find_behind test xs ys fail = sym (find-append test xs ys ∙ rw (find_none test xs fail) refl)
+pub find_after : {X : Type 0} (test : X → Bool) (xs ys : List X) → All (λ (x : X). test x ≡ false) xs → find test ys ≡ find test (xs ++ ys)
+find_after test xs ys fail = sym (find-append test xs ys ∙ rw (find_none test xs fail) refl)
 
 pub present : {X : Type 0} (xs : List X) (k : ℕ) → k < length xs → slice_get xs k ≡ None → ⊥
 present xs k within missing = let d = some_element xs (omega (arith, within)) in cc (slice_get-get_or xs k d within, missing)
@@ -114,7 +114,7 @@ last_some : {X : Type 0} (test : X → Bool) (y : X) (ys : List X) (o : Option X
 last_some test y ys None found passes = (y, last_append test (y ∷ []) ys ∙ rw (found, passes) refl)
 last_some test y ys (Some z) found passes = (z, last_append test (y ∷ []) ys ∙ rw found refl)
 
--- the first of some elements passes, and nothing behind them does
+-- the first of some elements passes, and nothing after them does
 last_within : {X : Type 0} (test : X → Bool) (xs : List X) (y : X) (ys zs : List X) → test y ≡ true → All (λ (z : X). test z ≡ false) zs
     → find test (reverse (xs ++ (y ∷ ys) ++ zs)) ≡ find test (reverse (y ∷ ys))
 last_within test xs y ys zs passes fail =
@@ -155,19 +155,19 @@ module _ {E X : Type 0} (R : X → X → Type 0) (g : E → List X) (before : E 
   parted [] begin pairs = λ i j d under within. absurd (omega arith)
   parted (e ∷ es) begin pairs =
       let own = begin 0 e (omega arith) in
-      let behind : All (R own.first) (own.others ++ flat_map g es) =
+      let after : All (R own.first) (own.others ++ flat_map g es) =
       pairs_first R own.first (own.others ++ flat_map g es) (subst (λ (xs : List X). AllPairs R (xs ++ flat_map g es)) own.part pairs) in
       AllPairs-cons (λ (a b : E). before b ≡ true → before a ≡ true) e es
       (λ k d within passes.
       let other = begin (suc k) d (omega arith) in
-      let all = all_of_part (R own.first) g es k d (all_right (R own.first) own.others (flat_map g es) behind) within in
+      let all = all_of_part (R own.first) g es k d (all_right (R own.first) own.others (flat_map g es) after) within in
       let follows : R own.first other.first = (subst (All (R own.first)) other.part all) 0 other.first (omega arith) in
       own.same ∙ falls own.first other.first follows (sym other.same ∙ passes))
       (parted es (λ k d within. begin (suc k) d (omega arith)) (pairs_right R (g e) (flat_map g es) pairs))
 
-  pub behind_fails : (y : X) (ys : List X) → AllPairs R (y ∷ ys) → test y ≡ false → All (λ (z : X). test z ≡ false) (y ∷ ys)
-  behind_fails y ys pairs fails zero d within = fails
-  behind_fails y ys pairs fails (suc k) d within =
+  pub after_fails : (y : X) (ys : List X) → AllPairs R (y ∷ ys) → test y ≡ false → All (λ (z : X). test z ≡ false) (y ∷ ys)
+  after_fails y ys pairs fails zero d within = fails
+  after_fails y ys pairs fails (suc k) d within =
       false_from_ne_true (test (get_or ys k d)) (λ is. cc (fails, falls y (get_or ys k d) (pairs_first R y ys pairs k d (omega arith)) is))
 
   pub all_fail : (es : List E) → All (Begins g before test) es → AllPairs R (flat_map g es) → All (λ (e : E). before e ≡ false) es
@@ -176,7 +176,7 @@ module _ {E X : Type 0} (R : X → X → Type 0) (g : E → List X) (before : E 
   all_fail (e ∷ es) begin pairs fail =
       let own = begin 0 e (omega arith) in
       subst (λ (xs : List X). All (λ (x : X). test x ≡ false) (xs ++ flat_map g es)) (sym own.part)
-      (behind_fails own.first (own.others ++ flat_map g es) (subst (λ (xs : List X). AllPairs R (xs ++ flat_map g es)) own.part pairs)
+      (after_fails own.first (own.others ++ flat_map g es) (subst (λ (xs : List X). AllPairs R (xs ++ flat_map g es)) own.part pairs)
       (sym own.same ∙ fail 0 e (omega arith)))
 
   -- no item passes
@@ -184,10 +184,10 @@ module _ {E X : Type 0} (R : X → X → Type 0) (g : E → List X) (before : E 
       → find test (reverse (flat_map g es)) ≡ None
   last_of_none es begin pairs place = last_none test (flat_map g es) (all_fail es begin pairs (λ k d within. place.from k d (omega arith) within))
 
-  -- the parts in front of an item, its own, and those behind it
-  pub cut_at : (es : List E) (k : ℕ) (d : E) → k < length es
+  -- the parts in front of an item, its own, and those after it
+  pub split_rows_at : (es : List E) (k : ℕ) (d : E) → k < length es
       → flat_map g es ≡ flat_map g (take k es) ++ (g (get_or es k d) ++ flat_map g (drop (suc k) es))
-  cut_at es k d within = ap (flat_map g) (split_at es k d within) ∙ flat_map-append g (take k es) (get_or es k d ∷ drop (suc k) es)
+  split_rows_at es k d within = ap (flat_map g) (split_at es k d within) ∙ flat_map-append g (take k es) (get_or es k d ∷ drop (suc k) es)
 
   -- the last element that passes is in the last part whose item does
   pub last_of_part : (es : List E) (k : ℕ) (d : E) → All (Begins g before test) es → AllPairs R (flat_map g es) → IsPlaceOf before es (suc k)
@@ -195,12 +195,12 @@ module _ {E X : Type 0} (R : X → X → Type 0) (g : E → List X) (before : E 
   last_of_part es k d begin pairs place =
       let within : k < length es = omega (arith, place.within) in
       let own = begin k d within in
-      let cut = cut_at es k d within in
+      let bound = split_rows_at es k d within in
       let rest : List X = flat_map g (drop (suc k) es) in
-      let all : AllPairs R rest = pairs_right R (g (get_or es k d)) rest (pairs_right R (flat_map g (take k es)) _ (subst (AllPairs R) cut pairs)) in
+      let all : AllPairs R rest = pairs_right R (g (get_or es k d)) rest (pairs_right R (flat_map g (take k es)) _ (subst (AllPairs R) bound pairs)) in
       let fail = all_fail (drop (suc k) es) (All-drop (Begins g before test) (suc k) es begin) all
       (λ m e inside. rw (get_or-drop (suc k) es m e) (place.from (suc k + m) e (omega arith) (omega (arith, length-drop (suc k) es)))) in
-      ap (λ (xs : List X). find test (reverse xs)) cut
+      ap (λ (xs : List X). find test (reverse xs)) bound
       ∙ rw (own.part, ← append_assoc (flat_map g (take k es)) (own.first ∷ own.others) rest) (last_within test (flat_map g (take k es)) own.first own.others rest
       (sym own.same ∙ place.below k d (omega arith) (omega arith)) fail)
 
@@ -211,5 +211,5 @@ module _ {E X : Type 0} (R : X → X → Type 0) (g : E → List X) (before : E 
       let own = begin k d within in
       let all = pairs_before R (flat_map g (take k es)) own.first (own.others ++ flat_map g (drop (suc k) es))
       (subst (λ (xs : List X). AllPairs R (flat_map g (take k es) ++ (xs ++ flat_map g (drop (suc k) es)))) own.part
-      (subst (AllPairs R) (cut_at es k d within) pairs)) in
+      (subst (AllPairs R) (split_rows_at es k d within) pairs)) in
       falls (get_or (flat_map g (take k es)) m e) own.first (all m e inside) (sym own.same ∙ passes)

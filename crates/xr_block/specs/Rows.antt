@@ -51,9 +51,9 @@ key_held form held zero n = key_of_records form (held.records n)
 key_held form held (suc level) n = key_of_entries form (held.entries n)
 
 -- the least number of items of a block that isn't the root
-unfoldable pub half : {X : Type 0} → Form X → ℕ → ℕ
-half form zero = form.leaf_max / 2
-half form (suc level) = form.node_max / 2
+unfoldable pub min_records : {X : Type 0} → Form X → ℕ → ℕ
+min_records form zero = form.leaf_max / 2
+min_records form (suc level) = form.node_max / 2
 
 -- a block holds some items, as many as it may, and nothing else
 pub record IsWhole {I : Type 0} (least most : ℕ) (bytes_of : Place → List I → List ℕ) (items : List I) (place : Place) (bytes : List ℕ) : Type 0 where
@@ -67,12 +67,12 @@ IsWholeLeaf form site held least place bytes = IsWhole least form.leaf_max (leaf
 abbrev pub IsWholeNode : {X : Type 0} → Form X → Site → Held X → ℕ → Place → List ℕ → Type 0
 IsWholeNode form site held least place bytes = IsWhole least form.node_max (node_bytes form site) (held.entries place.number) place bytes
 
--- the first of a row, or else what stands behind it
+-- the first of a row, or else what stands after it
 abbrev pub first_of : List ℕ → Option ℕ → Option ℕ
-first_of [] behind = behind
-first_of (n ∷ ns) behind = Some n
+first_of [] after = after
+first_of (n ∷ ns) after = Some n
 
--- each block of a row has its place between its neighbours
+-- each block of a row has its place between its siblings
 unfoldable pub AreLinked : (Place → List ℕ → Type 0) → (ℕ → List ℕ) → ℕ → Option ℕ → List ℕ → Option ℕ → Type 0
 AreLinked P at level left [] right = ⊤
 AreLinked P at level left (n ∷ ns) right =
@@ -89,4 +89,4 @@ unfoldable pub AreRowsOf : {X : Type 0} → Form X → Site → (ℕ → List �
 AreRowsOf form site at held least zero row = AreLinked (IsWholeLeaf form site held least) at zero None row None
 AreRowsOf form site at held least (suc level) row =
     AreLinked (IsWholeNode form site held least) at (suc level) None row None
-    × AreNamed form held level row × AreRowsOf form site at held (half form level) level (flat_map (named_below held) row)
+    × AreNamed form held level row × AreRowsOf form site at held (min_records form level) level (flat_map (named_below held) row)

@@ -12,8 +12,8 @@ use Rattle.xr_kinds.specs.BigEndianLaws.{dropped_bytes, taken_bytes}
 use Rattle.xr_block.specs.BlockLaws.{drop_overlaid, fields_fill, summed_same}
 use Rattle.xr_kinds.specs.Form.{Form, header_size, pointer_size}
 use Rattle.xr_base.specs.Fields.{AreBytes}
-use Rattle.xr_block.specs.TreeBlock.{Place, Site, count_in, filled, header, sum_place, summed, tree_block}
-use Rattle.xr_block.specs.Checks.{left_in, neighbour_in, right_in}
+use Rattle.xr_block.specs.TreeBlock.{Place, Site, count_in, zero_padded, header, crc_place, with_crc, tree_block}
+use Rattle.xr_block.specs.Checks.{left_in, sibling_in, right_in}
 use Rattle.xr_block.specs.Edits.{sealed}
 
 -- the four bytes of a checksum
@@ -23,34 +23,34 @@ sum_bytes at bytes = little_bytes 4 (checksum_of (without_four at bytes))
 length-sum_bytes : (at : ℕ) (bytes : List ℕ) → length (sum_bytes at bytes) ≡ 4
 length-sum_bytes at bytes = length-bytes_low_first 0 4 (checksum_of (without_four at bytes))
 
--- what stands before a checksum, and behind it
-pub take_summed : (at : ℕ) (bytes : List ℕ) → at ≤ length bytes → take at (summed at bytes) ≡ take at bytes
+-- what stands before a checksum, and after it
+pub take_summed : (at : ℕ) (bytes : List ℕ) → at ≤ length bytes → take at (with_crc at bytes) ≡ take at bytes
 take_summed at bytes fits =
     let sum : List ℕ = sum_bytes at bytes in
     ap (take at) (append_assoc (take at bytes) sum (drop (at + length sum) bytes)) ∙ take_at (take at bytes) _ at (length-take-le at bytes fits)
 
-pub drop_summed : (at k : ℕ) (bytes : List ℕ) → at + 4 ≤ k → at + 4 ≤ length bytes → drop k (summed at bytes) ≡ drop k bytes
-drop_summed at k bytes behind fits =
+pub drop_summed : (at k : ℕ) (bytes : List ℕ) → at + 4 ≤ k → at + 4 ≤ length bytes → drop k (with_crc at bytes) ≡ drop k bytes
+drop_summed at k bytes after fits =
     let long = length-sum_bytes at bytes in
-    drop_overlaid at k (sum_bytes at bytes) bytes (omega (arith, long, behind)) (omega (arith, long, fits))
+    drop_overlaid at k (sum_bytes at bytes) bytes (omega (arith, long, after)) (omega (arith, long, fits))
 
-summed_again : (at : ℕ) (bytes : List ℕ) → at + 4 ≤ length bytes → summed at (summed at bytes) ≡ summed at bytes
+summed_again : (at : ℕ) (bytes : List ℕ) → at + 4 ≤ length bytes → with_crc at (with_crc at bytes) ≡ with_crc at bytes
 summed_again at bytes fits =
-    summed_same at (summed at bytes) bytes (take_summed at bytes (omega (arith, fits))) (drop_summed at (at + 4) bytes (omega arith) fits)
+    summed_same at (with_crc at bytes) bytes (take_summed at bytes (omega (arith, fits))) (drop_summed at (at + 4) bytes (omega arith) fits)
 
 -- a number before a checksum
 number_before : (at place width : ℕ) (bytes : List ℕ) → place + width ≤ at → at ≤ length bytes
-    → big_number width (drop place (summed at bytes)) ≡ big_number width (drop place bytes)
+    → big_number width (drop place (with_crc at bytes)) ≡ big_number width (drop place bytes)
 number_before at place width bytes before fits =
-    sym (big_from-take 0 width width (drop place (summed at bytes)) (omega arith))
+    sym (big_from-take 0 width width (drop place (with_crc at bytes)) (omega arith))
     ∙ ap (big_number width) (part_below at width place (sum_bytes at bytes) bytes before fits)
     ∙ big_from-take 0 width width (drop place bytes) (omega arith)
 
--- bytes behind bytes
+-- bytes after bytes
 both_bytes : (xs ys : List ℕ) → AreBytes xs → AreBytes ys → AreBytes (xs ++ ys)
-both_bytes [] ys front behind i = behind i
-both_bytes (x ∷ xs) ys front behind zero = front 0
-both_bytes (x ∷ xs) ys front behind (suc i) = both_bytes xs ys (λ k. front (suc k)) behind i
+both_bytes [] ys front after i = after i
+both_bytes (x ∷ xs) ys front after zero = front 0
+both_bytes (x ∷ xs) ys front after (suc i) = both_bytes xs ys (λ k. front (suc k)) after i
 
 byte_small : (n x : ℕ) → byte_at n x < 256
 byte_small zero x = mod-lt x (omega arith)
@@ -63,37 +63,37 @@ low_bytes i (suc n) x (suc k) = low_bytes (suc i) n x k
 
 module _ {X : Type 0} (form : Form X) (bytes : List ℕ) (long : length bytes ≡ BLOCK_BYTES) where
   -- a block has room for the checksum
-  roomy : sum_place form + 4 ≤ length bytes
+  roomy : crc_place form + 4 ≤ length bytes
   roomy = let fill = fields_fill form.long in omega (arith, fill, long)
 
   pub length-sealed : length (sealed form bytes) ≡ BLOCK_BYTES
   length-sealed =
-      length-overlaid (sum_place form) (sum_bytes (sum_place form) bytes) bytes (omega (arith, roomy, length-sum_bytes (sum_place form) bytes)) ∙ long
+      length-overlaid (crc_place form) (sum_bytes (crc_place form) bytes) bytes (omega (arith, roomy, length-sum_bytes (crc_place form) bytes)) ∙ long
 
   pub sealed_again : sealed form (sealed form bytes) ≡ sealed form bytes
-  sealed_again = summed_again (sum_place form) bytes roomy
+  sealed_again = summed_again (crc_place form) bytes roomy
 
   pub sealed_bytes : AreBytes bytes → AreBytes (sealed form bytes)
   sealed_bytes all =
-      let at : ℕ = sum_place form in
+      let at : ℕ = crc_place form in
       let sum : List ℕ = sum_bytes at bytes in
       both_bytes (take at bytes ++ sum) (drop (at + length sum) bytes)
       (both_bytes (take at bytes) sum (taken_bytes at bytes all) (low_bytes 0 4 (checksum_of (without_four at bytes))))
       (dropped_bytes (at + length sum) bytes all)
 
   pub sealed_count : count_in (sealed form bytes) ≡ count_in bytes
-  sealed_count = let fill = fields_fill form.long in number_before (sum_place form) 6 2 bytes (omega (arith, fill)) (omega (arith, roomy))
+  sealed_count = let fill = fields_fill form.long in number_before (crc_place form) 6 2 bytes (omega (arith, fill)) (omega (arith, roomy))
 
-  -- what stands behind the header
+  -- what stands after the header
   pub sealed_rest : drop (header_size form) (sealed form bytes) ≡ drop (header_size form) bytes
-  sealed_rest = let fill = fields_fill form.long in drop_summed (sum_place form) (header_size form) bytes (omega (arith, fill)) roomy
+  sealed_rest = let fill = fields_fill form.long in drop_summed (crc_place form) (header_size form) bytes (omega (arith, fill)) roomy
 
-  -- the neighbour at a place before the checksum
-  sealed_neighbour : (place : ℕ) → place + pointer_size form ≤ sum_place form
-      → neighbour_in (pointer_size form) (drop place (sealed form bytes)) ≡ neighbour_in (pointer_size form) (drop place bytes)
+  -- the sibling at a place before the checksum
+  sealed_neighbour : (place : ℕ) → place + pointer_size form ≤ crc_place form
+      → sibling_in (pointer_size form) (drop place (sealed form bytes)) ≡ sibling_in (pointer_size form) (drop place bytes)
   sealed_neighbour place before =
       let none : ℕ = 256 ^ pointer_size form - 1 in
-      ap (λ (n : ℕ). if n == none then None else Some n) (number_before (sum_place form) place (pointer_size form) bytes before (omega (arith, roomy)))
+      ap (λ (n : ℕ). if n == none then None else Some n) (number_before (crc_place form) place (pointer_size form) bytes before (omega (arith, roomy)))
 
   pub sealed_left : left_in form (sealed form bytes) ≡ left_in form bytes
   sealed_left = let fill = fields_fill form.long in sealed_neighbour 8 (omega (arith, fill))
@@ -108,7 +108,7 @@ unfolding tree_block
 sealed_block form site place count items identified =
     let fill = fields_fill form.long in
     let fields : List ℕ = header form site place count ++ items in
-    let all : List ℕ = filled BLOCK_BYTES fields in
+    let all : List ℕ = zero_padded BLOCK_BYTES fields in
     let long : BLOCK_BYTES ≤ length all =
     omega (arith, length-append fields (replicate (BLOCK_BYTES - length fields) 0), length-replicate {A = ℕ} (BLOCK_BYTES - length fields) 0) in
-    summed_again (sum_place form) all (omega (arith, fill, long))
+    summed_again (crc_place form) all (omega (arith, fill, long))

@@ -7,7 +7,7 @@ use Rattle.xr_pool.specs.Overlay.{Blocks, block_at, is_free, pool_size}
 use Rattle.xr_block.specs.Rows.{AreRowsOf, Held, held_in, leaves_from, rows_from}
 use Rattle.xr_block.specs.TreeBlock.{Site}
 
--- the rules on the records of a tree, which are told of every pair, neighbours or not
+-- the rules on the records of a tree, which are told of every pair, siblings or not
 pub record AreRecords {X : Type 0} (form : Form X) (records : List X) : Type 0 where
   pub valid : All (λ (r : X). form.is_valid r ≡ true) records
   pub ascend : AllPairs (λ (a b : X). form.order a b ≡ Less) records

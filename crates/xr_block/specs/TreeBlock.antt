@@ -16,7 +16,7 @@ pub record Site : Type 0 where
   pub owner : ℕ
   pub uuid : List ℕ
 
--- a block's number, its level above the leaves, and its neighbours in its level
+-- a block's number, its level above the leaves, and its siblings in its level
 pub record Place : Type 0 where
   pub number : ℕ
   pub level : ℕ
@@ -28,13 +28,13 @@ pub record Entry : Type 0 where
   pub key : List ℕ
   pub child : ℕ
 
--- bytes with zeros behind them, n in all
-abbrev pub filled : ℕ → List ℕ → List ℕ
-filled n bytes = bytes ++ replicate (n - length bytes) 0
+-- bytes with zeros after them, n in all
+abbrev pub zero_padded : ℕ → List ℕ → List ℕ
+zero_padded n bytes = bytes ++ replicate (n - length bytes) 0
 
 -- the bytes with their checksum among them
-abbrev pub summed : ℕ → List ℕ → List ℕ
-summed at bytes = overlaid at (little_bytes 4 (checksum_of (without_four at bytes))) bytes
+abbrev pub with_crc : ℕ → List ℕ → List ℕ
+with_crc at bytes = overlaid at (little_bytes 4 (checksum_of (without_four at bytes))) bytes
 
 -- where the fields stand that follow the left sibling
 abbrev pub bb_rightsib : {X : Type 0} → Form X → ℕ
@@ -53,24 +53,24 @@ abbrev pub bb_owner : {X : Type 0} → Form X → ℕ
 bb_owner form = BB_LEFTSIB + BB_BLKNO_BYTES + BB_LSN_BYTES + UUID_BYTES + 2 * pointer_size form
 
 -- where the checksum stands
-abbrev pub sum_place : {X : Type 0} → Form X → ℕ
-sum_place form = if form.long then LONG_BB_CRC else SHORT_BB_CRC
+abbrev pub crc_place : {X : Type 0} → Form X → ℕ
+crc_place form = if form.long then LONG_BB_CRC else SHORT_BB_CRC
 
--- all bits are set where there is no neighbour
-abbrev pub neighbour : ℕ → Option ℕ → List ℕ
-neighbour width None = replicate width 255
-neighbour width (Some n) = big_bytes width n
+-- all bits are set where there is no sibling
+abbrev pub sibling : ℕ → Option ℕ → List ℕ
+sibling width None = replicate width 255
+sibling width (Some n) = big_bytes width n
 
 -- a block belongs to no record of the log, and the checksum's room is zero
 unfoldable pub header : {X : Type 0} → Form X → Site → Place → ℕ → List ℕ
 header form site place count =
     big_bytes 4 form.magic ++ big_bytes 2 place.level ++ big_bytes 2 count
-    ++ neighbour (pointer_size form) place.left ++ neighbour (pointer_size form) place.right
+    ++ sibling (pointer_size form) place.left ++ sibling (pointer_size form) place.right
     ++ big_bytes BB_BLKNO_BYTES ((site.first + place.number) * BLOCK_SECTORS) ++ big_bytes BB_LSN_BYTES 0 ++ site.uuid
-    ++ big_bytes (pointer_size form) site.owner ++ replicate (header_size form - sum_place form) 0
+    ++ big_bytes (pointer_size form) site.owner ++ replicate (header_size form - crc_place form) 0
 
 unfoldable pub tree_block : {X : Type 0} → Form X → Site → Place → ℕ → List ℕ → List ℕ
-tree_block form site place count items = summed (sum_place form) (filled BLOCK_BYTES (header form site place count ++ items))
+tree_block form site place count items = with_crc (crc_place form) (zero_padded BLOCK_BYTES (header form site place count ++ items))
 
 abbrev pub leaf_bytes : {X : Type 0} → Form X → Site → Place → List X → List ℕ
 leaf_bytes form site place records = tree_block form site place (length records) (flat_map form.bytes_of records)
@@ -78,7 +78,7 @@ leaf_bytes form site place records = tree_block form site place (length records)
 -- the keys stand first, in room for as many as a node can have
 abbrev pub node_items : {X : Type 0} → Form X → List Entry → List ℕ
 node_items form entries =
-    filled (form.node_max * key_size form) (flat_map (λ (e : Entry). e.key) entries)
+    zero_padded (form.node_max * key_size form) (flat_map (λ (e : Entry). e.key) entries)
     ++ flat_map (λ (e : Entry). big_bytes (pointer_size form) e.child) entries
 
 abbrev pub node_bytes : {X : Type 0} → Form X → Site → Place → List Entry → List ℕ

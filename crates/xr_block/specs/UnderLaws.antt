@@ -6,7 +6,7 @@ use Rattle.std.proofs.lemmas.List.Elements.{Contains-append_left, Contains-appen
 use Rattle.std.proofs.lemmas.List.Folds.{flat_map-map}
 use Rattle.std.specs.List.{All, Contains, flat_map}
 use Rattle.xr_kinds.specs.Form.{Form, IsForm}
-use Rattle.xr_block.specs.Rows.{AreLinked, AreNamed, AreRowsOf, Held, IsWholeLeaf, IsWholeNode, first_of, greatest_key, half, key_held, key_of_entries, key_of_records, leaves_from, named_below}
+use Rattle.xr_block.specs.Rows.{AreLinked, AreNamed, AreRowsOf, Held, IsWholeLeaf, IsWholeNode, first_of, greatest_key, min_records, key_held, key_of_entries, key_of_records, leaves_from, named_below}
 use Rattle.xr_block.specs.Tree.{records_under}
 use Rattle.xr_block.specs.TreeBlock.{Entry, Place, Site}
 
@@ -73,10 +73,10 @@ below_row f [] n m within named = absurd (omega (arith, within.1))
 below_row f (k ∷ ks) n m (zero, inside, is) named = Contains-append_left (f k) (flat_map f ks) m (subst (λ (i : ℕ). Contains (f i) m) (sym is) named)
 below_row f (k ∷ ks) n m (suc i, inside, is) named = Contains-append_right (f k) (flat_map f ks) m (below_row f ks n m (i, omega (arith, inside), is) named)
 
-pub half_some : {X : Type 0} (form : Form X) (laws : IsForm form) (level : ℕ) → 1 ≤ half form level
-unfolding half
-half_some form laws zero = omega (arith, laws.leaf_some)
-half_some form laws (suc level) = omega (arith, laws.node_some)
+pub min_records_some : {X : Type 0} (form : Form X) (laws : IsForm form) (level : ℕ) → 1 ≤ min_records form level
+unfolding min_records
+min_records_some form laws zero = omega (arith, laws.leaf_some)
+min_records_some form laws (suc level) = omega (arith, laws.node_some)
 
 -- a block has records under it, and its low key is that of the first
 pub record HasFirst {X : Type 0} (form : Form X) (held : Held X) (level n : ℕ) : Type 0 where
@@ -136,4 +136,4 @@ module _ {X : Type 0} (form : Form X) (laws : IsForm form) (site : Site) (at : �
       first_of_node level n (held.entries n) refl (subst (λ (m : ℕ). 1 ≤ length (held.entries m)) here.1 (omega (arith, whole.least_items)))
       (named_at form held level row n rows.1 within)
       (λ k d inside.
-      has_first (half form level) level (flat_map (named_below held) row) _ (half_some form laws level) rows.2 (child_in_row row n k d within inside))
+      has_first (min_records form level) level (flat_map (named_below held) row) _ (min_records_some form laws level) rows.2 (child_in_row row n k d within inside))

@@ -6,21 +6,21 @@ use xr_kinds::Record;
 
 /// A place between the records of a tree.
 #[derive(Clone, Copy)]
-pub enum Cut<R> {
+pub enum Bound<R> {
     Start,
     Before(R),
-    Behind(R),
+    After(R),
 }
 
-impl<R: Record> Cut<R> {
+impl<R: Record> Bound<R> {
     /// Whether a record stands before the place.
     pub fn passes(&self, other: &R) -> bool
         ensures { result ≡ is_before R.form self.now other.now }
     {
         match self {
-            Cut::Start => false,
-            Cut::Before(r) => other.compare(r).is_lt(),
-            Cut::Behind(r) => other.compare(r).is_le(),
+            Bound::Start => false,
+            Bound::Before(r) => other.compare(r).is_lt(),
+            Bound::After(r) => other.compare(r).is_le(),
         }
     }
 
@@ -30,9 +30,9 @@ impl<R: Record> Cut<R> {
         ensures { result ≡ key_is_before R.form self.now key.now }
     {
         match self {
-            Cut::Start => false,
-            Cut::Before(r) => r.compare_low(key).is_gt(),
-            Cut::Behind(r) => r.compare_low(key).is_ge(),
+            Bound::Start => false,
+            Bound::Before(r) => r.compare_low(key).is_gt(),
+            Bound::After(r) => r.compare_low(key).is_ge(),
         }
     }
 }

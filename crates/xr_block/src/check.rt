@@ -1,11 +1,11 @@
-//! Whether a block is a leaf or a node of a tree: its header, its checksum, how many items it has, and the room behind them.
+//! Whether a block is a leaf or a node of a tree: its header, its checksum, how many items it has, and the room after them.
 ghost use Rattle.std.specs.Prelude.{◌≡◌, ℕ, ◌+◌, ◌*◌, ◌-◌, ◌^◌, ◌<◌, ◌≤◌, ◌↔◌, length, replicate, IsTrue, IsOk, IfOk, IsSome};
 ghost use Rattle.xr_base.specs.Image.{part};
-ghost use Rattle.xr_block.specs.Checks.{HasFields, HasRecords, HasRoom, IsFramed, IsTestedLeaf, IsTestedNode};
+ghost use Rattle.xr_block.specs.Checks.{HasFields, HasRecords, HasZeroPadding, HasHeader, IsCheckedLeaf, IsCheckedNode};
 ghost use Rattle.xr_kinds.specs.Form.{header_size, key_size, pointer_size};
 ghost use Rattle.xr_pool.specs.Overlay.{pool_size};
 ghost use Rattle.xr_block.specs.Tree.{site_of};
-ghost use Rattle.xr_block.specs.TreeBlock.{count_in, sum_place, summed};
+ghost use Rattle.xr_block.specs.TreeBlock.{count_in, crc_place, with_crc};
 
 use crate::fault::TreeKind;
 use crate::read::{count_of, header_size, pointer_bytes, record_at};
@@ -39,9 +39,9 @@ pub fn are_zeros(bytes: &[u8]) -> bool
 }
 
 /// Whether the checksum at a place is that of all bytes.
-fn is_summed(bytes: &[u8], at: usize) -> bool
+fn has_crc(bytes: &[u8], at: usize) -> bool
     requires { at + 4 ≤ length bytes.now }
-    ensures { IsTrue result ↔ bytes.now ≡ summed at bytes.now }
+    ensures { IsTrue result ↔ bytes.now ≡ with_crc at bytes.now }
 {
     let mut sum = [0; 4];
     LittleEndian::write_u32(&mut sum, crc32c_without(bytes, at));
@@ -49,8 +49,8 @@ fn is_summed(bytes: &[u8], at: usize) -> bool
 }
 
 /// Where the checksum stands.
-pub fn checksum_place<R: Record>() -> usize
-    ensures { result ≡ sum_place R.form }
+pub fn crc_place<R: Record>() -> usize
+    ensures { result ≡ crc_place R.form }
 {
     if R::LONG { LONG_BB_CRC } else { SHORT_BB_CRC }
 }
@@ -71,22 +71,22 @@ fn has_fields<R: Record>(over: &Overlay, n: u32, level: u32, block: &Block) -> b
         && are_zeros(&block[lsn..uuid])
         && holds(block, uuid, over.uuid())
         && holds(block, uuid + UUID_BYTES, &owner[8 - pointer..])
-        && are_zeros(&block[checksum_place::<R>() + 4..header_size::<R>()])
+        && are_zeros(&block[crc_place::<R>() + 4..header_size::<R>()])
 }
 
 /// The magic, the checksum and the other fields of a header.
-pub fn test_header<R: Record>(
+pub fn check_header<R: Record>(
     over: &Overlay,
     n: u32,
     level: u32,
     block: &Block,
 ) -> Result<(), TreeKind>
     requires { n < pool_size over.now }
-    ensures { IsOk result ↔ IsFramed R.form (site_of over.now) n level block.now }
+    ensures { IsOk result ↔ HasHeader R.form (site_of over.now) n level block.now }
 {
     if !holds(block, 0, &R::MAGIC.to_be_bytes()) {
         Err(TreeKind::Magic)
-    } else if !is_summed(block, checksum_place::<R>()) {
+    } else if !has_crc(block, crc_place::<R>()) {
         Err(TreeKind::Checksum)
     } else if !has_fields::<R>(over, n, level, block) {
         Err(TreeKind::Header)
@@ -121,8 +121,8 @@ fn count_within(block: &Block, least: usize, most: u32) -> Result<usize, TreeKin
     }
 }
 
-/// Whether the places of a leaf hold valid records, and zeros stand behind them.
-fn test_records<R: Record>(block: &Block, count: usize) -> Result<(), TreeKind>
+/// Whether the places of a leaf hold valid records, and zeros stand after them.
+fn check_records<R: Record>(block: &Block, count: usize) -> Result<(), TreeKind>
     requires { count ≤ R.LEAF_MAX }
     ensures { IsOk result ↔ HasRecords R.form count block.now }
 {
@@ -134,10 +134,10 @@ fn test_records<R: Record>(block: &Block, count: usize) -> Result<(), TreeKind>
     }
 }
 
-/// Whether zeros stand behind the keys of a node and behind its pointers.
-fn test_room<R: Record>(block: &Block, count: usize) -> Result<(), TreeKind>
+/// Whether zeros stand after the keys of a node and after its pointers.
+fn check_padding<R: Record>(block: &Block, count: usize) -> Result<(), TreeKind>
     requires { count ≤ R.NODE_MAX }
-    ensures { IsOk result ↔ HasRoom R.form count block.now }
+    ensures { IsOk result ↔ HasZeroPadding R.form count block.now }
 {
     let key = R::LOW + R::HIGH;
     let keys = header_size::<R>();
@@ -150,23 +150,23 @@ fn test_room<R: Record>(block: &Block, count: usize) -> Result<(), TreeKind>
     }
 }
 
-/// Whether a block is a leaf with at least so many records, whatever its neighbours are.
-pub fn test_leaf<R: Record>(
+/// Whether a block is a leaf with at least so many records, whatever its siblings are.
+pub fn check_leaf<R: Record>(
     over: &Overlay,
     n: u32,
     least: usize,
     block: &Block,
 ) -> Result<(), TreeKind>
     requires { n < pool_size over.now }
-    ensures tests { IsOk result ↔ IsTestedLeaf R.form (site_of over.now) least n block.now }
+    ensures tests { IsOk result ↔ IsCheckedLeaf R.form (site_of over.now) least n block.now }
 {
-    test_header::<R>(over, n, 0, block)?;
+    check_header::<R>(over, n, 0, block)?;
     let count = count_within(block, least, R::LEAF_MAX)?;
-    test_records::<R>(block, count)
+    check_records::<R>(block, count)
 }
 
-/// Whether a block is a node with at least so many children, whatever its neighbours are.
-pub fn test_node<R: Record>(
+/// Whether a block is a node with at least so many children, whatever its siblings are.
+pub fn check_node<R: Record>(
     over: &Overlay,
     n: u32,
     level: u32,
@@ -174,9 +174,9 @@ pub fn test_node<R: Record>(
     block: &Block,
 ) -> Result<(), TreeKind>
     requires { n < pool_size over.now }
-    ensures tests { IsOk result ↔ IsTestedNode R.form (site_of over.now) least n level block.now }
+    ensures tests { IsOk result ↔ IsCheckedNode R.form (site_of over.now) least n level block.now }
 {
-    test_header::<R>(over, n, level, block)?;
+    check_header::<R>(over, n, level, block)?;
     let count = count_within(block, least, R::NODE_MAX)?;
-    test_room::<R>(block, count)
+    check_padding::<R>(block, count)
 }

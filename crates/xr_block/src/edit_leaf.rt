@@ -3,18 +3,18 @@ ghost use Rattle.std.specs.Prelude.{◌≡◌, ℕ, ◌+◌, ◌-◌, ◌*◌, �
 ghost use Rattle.std.specs.List.{All, flat_map, insert, remove};
 ghost use Rattle.xr_base.specs.Image.{overlaid, part};
 ghost use Rattle.xr_kinds.specs.Form.{header_size};
-ghost use Rattle.xr_block.specs.TreeBlock.{Place, Site, count_in, filled};
+ghost use Rattle.xr_block.specs.TreeBlock.{Place, Site, count_in, zero_padded};
 ghost use Rattle.xr_block.specs.Edits.{IsHeader, IsLeafOf, sealed};
 ghost use Rattle.xr_block.specs.ItemBytes.{with_item, without_item};
 
 use crate::header::{Header, put_count, put_header};
-use crate::items::{cut_item, gather_items, insert_gap, put_both};
+use crate::items::{gather_items, insert_gap, put_both, remove_item};
 use crate::read::{count_of, header_size};
 use xr_kinds::Record;
 use xr_pool::Block;
 
 /// Puts a record among some, of which `items` has the bytes.
-fn put_among<R: Record>(items: &mut [u8], k: usize, count: usize, added: &R)
+fn insert_among<R: Record>(items: &mut [u8], k: usize, count: usize, added: &R)
     requires valid { IsTrue (R.form.is_valid added.now) }
     requires place { k ≤ count }
     requires room { R.form.size * (count + 1) ≤ length items.old }
@@ -27,13 +27,13 @@ fn put_among<R: Record>(items: &mut [u8], k: usize, count: usize, added: &R)
 }
 
 /// Cuts a record out of some, of which `items` has the bytes.
-fn cut_among<R: Record>(items: &mut [u8], k: usize, count: usize)
+fn remove_among<R: Record>(items: &mut [u8], k: usize, count: usize)
     requires place { k < count }
     requires within { R.form.size * count ≤ length items.old }
     requires small { length items.old ≤ 4096 }
     ensures { items.new ≡ without_item (R.form.size * k) (R.form.size * count) R.form.size items.old }
 {
-    cut_item(items, R::SIZE * k, R::SIZE * count, R::SIZE);
+    remove_item(items, R::SIZE * k, R::SIZE * count, R::SIZE);
 }
 
 /// Writes a record over one of some, of which `items` has the bytes.
@@ -48,7 +48,7 @@ fn put_over<R: Record>(items: &mut [u8], k: usize, other: &R)
 }
 
 /// Puts a record at a place of a leaf that isn't full.
-pub fn put_record<R: Record>(block: &mut Block, k: usize, added: &R)
+pub fn insert_record<R: Record>(block: &mut Block, k: usize, added: &R)
     requires valid { IsTrue (R.form.is_valid added.now) }
     requires place { k ≤ count_in block.old }
     requires room { count_in block.old < R.LEAF_MAX }
@@ -57,12 +57,12 @@ pub fn put_record<R: Record>(block: &mut Block, k: usize, added: &R)
 {
     let count = count_of(block);
     let (_, items) = block.split_at_mut(header_size::<R>());
-    put_among(items, k, count, added);
+    insert_among(items, k, count, added);
     put_count(block, count + 1);
 }
 
 /// Cuts the record at a place out of a leaf.
-pub fn cut_record<R: Record>(block: &mut Block, k: usize)
+pub fn remove_record<R: Record>(block: &mut Block, k: usize)
     requires place { k < count_in block.old }
     requires few { count_in block.old ≤ R.LEAF_MAX }
     ensures { (site : Site) (place : Place) (records : List R) → IsLeafOf R.form site place records (sealed R.form block.old)
@@ -70,12 +70,12 @@ pub fn cut_record<R: Record>(block: &mut Block, k: usize)
 {
     let count = count_of(block);
     let (_, items) = block.split_at_mut(header_size::<R>());
-    cut_among::<R>(items, k, count);
+    remove_among::<R>(items, k, count);
     put_count(block, count - 1);
 }
 
 /// Writes another record over the one at a place of a leaf.
-pub fn set_record<R: Record>(block: &mut Block, k: usize, other: &R)
+pub fn replace_record<R: Record>(block: &mut Block, k: usize, other: &R)
     requires valid { IsTrue (R.form.is_valid other.now) }
     requires place { k < count_in block.old }
     requires few { count_in block.old ≤ R.LEAF_MAX }
@@ -108,7 +108,7 @@ pub fn build_leaf<R: Record>(out: &mut Block, fields: &Header, records: &[u8])
     put_both(items, records, &[]);
 }
 
-/// Writes a leaf of the records from a place to another of two leaves, the second's behind the first's.
+/// Writes a leaf of the records from a place to another of two leaves, the second's after the first's.
 pub fn gather_leaf<R: Record>(
     out: &mut Block,
     fields: &Header,

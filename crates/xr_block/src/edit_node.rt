@@ -5,12 +5,12 @@ ghost use Rattle.byteorder.specs.Endian.{big_bytes};
 ghost use Rattle.xr_base.specs.Image.{overlaid, part};
 ghost use Rattle.xr_block.specs.BlockLaws.{AreEntries};
 ghost use Rattle.xr_kinds.specs.Form.{header_size, key_size, pointer_size};
-ghost use Rattle.xr_block.specs.TreeBlock.{Entry, Place, Site, count_in, filled};
+ghost use Rattle.xr_block.specs.TreeBlock.{Entry, Place, Site, count_in, zero_padded};
 ghost use Rattle.xr_block.specs.Edits.{IsHeader, IsNodeOf, sealed, with_key};
 ghost use Rattle.xr_block.specs.ItemBytes.{with_item, without_item};
 
 use crate::header::{Header, put_count, put_header, put_number};
-use crate::items::{cut_item, gather_items, insert_gap, put_both, put_item};
+use crate::items::{gather_items, insert_gap, put_both, put_item, remove_item};
 use crate::read::{count_of, header_size, pointer_bytes};
 use xr_kinds::Record;
 use xr_pool::Block;
@@ -37,7 +37,7 @@ fn put_pointer<R: Record>(pointers: &mut [u8], k: usize, count: usize, child: u3
 }
 
 /// Puts a key and a pointer among those of a node.
-fn put_among<R: Record>(items: &mut [u8], k: usize, count: usize, key: &[u8], child: u32)
+fn insert_among<R: Record>(items: &mut [u8], k: usize, count: usize, key: &[u8], child: u32)
     requires place { k ≤ count }
     requires room { count < R.form.node_max }
     requires key { length key.now ≡ key_size R.form }
@@ -52,7 +52,7 @@ fn put_among<R: Record>(items: &mut [u8], k: usize, count: usize, key: &[u8], ch
 }
 
 /// Cuts a key and a pointer out of those of a node.
-fn cut_among<R: Record>(items: &mut [u8], k: usize, count: usize)
+fn remove_among<R: Record>(items: &mut [u8], k: usize, count: usize)
     requires place { k < count }
     requires few { count ≤ R.form.node_max }
     requires long { header_size R.form + length items.old ≡ 4096 }
@@ -62,8 +62,8 @@ fn cut_among<R: Record>(items: &mut [u8], k: usize, count: usize)
     let size = key_bytes::<R>();
     let pointer = pointer_bytes::<R>();
     let (keys, pointers) = items.split_at_mut(R::NODE_MAX as usize * size);
-    cut_item(keys, size * k, size * count, size);
-    cut_item(pointers, pointer * k, pointer * count, pointer);
+    remove_item(keys, size * k, size * count, size);
+    remove_item(pointers, pointer * k, pointer * count, pointer);
 }
 
 /// Writes a key over one of a node.
@@ -78,7 +78,7 @@ fn put_over<R: Record>(items: &mut [u8], k: usize, key: &[u8])
 }
 
 /// Puts a child with its key at a place of a node that isn't full.
-pub fn put_entry<R: Record>(block: &mut Block, k: usize, key: &[u8], child: u32)
+pub fn insert_entry<R: Record>(block: &mut Block, k: usize, key: &[u8], child: u32)
     requires key { length key.now ≡ key_size R.form }
     requires place { k ≤ count_in block.old }
     requires room { count_in block.old < R.NODE_MAX }
@@ -87,12 +87,12 @@ pub fn put_entry<R: Record>(block: &mut Block, k: usize, key: &[u8], child: u32)
 {
     let count = count_of(block);
     let (_, items) = block.split_at_mut(header_size::<R>());
-    put_among::<R>(items, k, count, key, child);
+    insert_among::<R>(items, k, count, key, child);
     put_count(block, count + 1);
 }
 
 /// Cuts the child at a place out of a node, with its key.
-pub fn cut_entry<R: Record>(block: &mut Block, k: usize)
+pub fn remove_entry<R: Record>(block: &mut Block, k: usize)
     requires place { k < count_in block.old }
     requires few { count_in block.old ≤ R.NODE_MAX }
     ensures { (site : Site) (place : Place) (entries : List Entry) → IsNodeOf R.form site place entries (sealed R.form block.old)
@@ -100,7 +100,7 @@ pub fn cut_entry<R: Record>(block: &mut Block, k: usize)
 {
     let count = count_of(block);
     let (_, items) = block.split_at_mut(header_size::<R>());
-    cut_among::<R>(items, k, count);
+    remove_among::<R>(items, k, count);
     put_count(block, count - 1);
 }
 
@@ -158,7 +158,7 @@ fn gather_keys<R: Record>(keys: &mut [u8], first: &Block, second: &Block, from: 
     requires within { to ≤ count_in first.now + count_in second.now }
     requires few { (count_in first.now ≤ R.form.node_max) × (count_in second.now ≤ R.form.node_max) }
     requires room { key_size R.form * (to - from) ≤ length keys.old }
-    ensures { keys.new ≡ filled (length keys.old) (part (key_size R.form * from) (key_size R.form * to - key_size R.form * from)
+    ensures { keys.new ≡ zero_padded (length keys.old) (part (key_size R.form * from) (key_size R.form * to - key_size R.form * from)
         (part (header_size R.form) (key_size R.form * count_in first.now) first.now ++ part (header_size R.form) (key_size R.form * count_in second.now) second.now)) }
 {
     let size = key_bytes::<R>();
@@ -183,7 +183,7 @@ fn gather_pointers<R: Record>(
     requires within { to ≤ count_in first.now + count_in second.now }
     requires few { (count_in first.now ≤ R.form.node_max) × (count_in second.now ≤ R.form.node_max) }
     requires room { pointer_size R.form * (to - from) ≤ length pointers.old }
-    ensures { pointers.new ≡ filled (length pointers.old) (part (pointer_size R.form * from) (pointer_size R.form * to - pointer_size R.form * from)
+    ensures { pointers.new ≡ zero_padded (length pointers.old) (part (pointer_size R.form * from) (pointer_size R.form * to - pointer_size R.form * from)
         (part (header_size R.form + R.form.node_max * key_size R.form) (pointer_size R.form * count_in first.now) first.now
         ++ part (header_size R.form + R.form.node_max * key_size R.form) (pointer_size R.form * count_in second.now) second.now)) }
 {
@@ -197,7 +197,7 @@ fn gather_pointers<R: Record>(
     );
 }
 
-/// Writes a node of the children from a place to another of two nodes, the second's behind the first's.
+/// Writes a node of the children from a place to another of two nodes, the second's after the first's.
 pub fn gather_node<R: Record>(
     out: &mut Block,
     fields: &Header,

@@ -15,7 +15,7 @@ pub enum TreeKind {
     Header,
     /// There are too few items, or too many.
     Count,
-    /// A record isn't valid, or a byte behind the items isn't zero.
+    /// A record isn't valid, or a byte after the items isn't zero.
     Field,
     /// A record isn't greater than the one before it.
     Order,
@@ -23,7 +23,7 @@ pub enum TreeKind {
     Merge,
     /// The parent's key of this block isn't the one that it has.
     Key,
-    /// The block isn't linked to its neighbours in its level.
+    /// The block isn't linked to its siblings in its level.
     Sibling,
     /// With this leaf there are too many records in the tree.
     Bound,

@@ -1,14 +1,14 @@
-//! The header of a tree's block: as a whole, its neighbours, its count, and the checksum that seals the block.
+//! The header of a tree's block: as a whole, its siblings, its count, and the checksum that seals the block.
 ghost use Rattle.std.specs.Prelude.{◌≡◌, ℕ, ◌+◌, ◌-◌, ◌*◌, ◌^◌, ◌<◌, ◌≤◌, ◌++◌, List, length, replicate};
 ghost use Rattle.byteorder.specs.Endian.{big_bytes};
 ghost use Rattle.xr_base.specs.Image.{overlaid};
 ghost use Rattle.xr_kinds.specs.Form.{header_size, pointer_size};
 ghost use Rattle.xr_pool.specs.Overlay.{pool_size};
 ghost use Rattle.xr_block.specs.Tree.{site_of};
-ghost use Rattle.xr_block.specs.TreeBlock.{Place, Site, header, neighbour, sum_place, tree_block};
+ghost use Rattle.xr_block.specs.TreeBlock.{Place, Site, header, sibling, crc_place, tree_block};
 ghost use Rattle.xr_block.specs.Edits.{IsHeader, sealed, with_left};
 
-use crate::check::checksum_place;
+use crate::check::crc_place;
 use crate::read::{header_size, pointer_bytes};
 use byteorder::{BigEndian, ByteOrder, LittleEndian};
 use xr_base::crc32c_without;
@@ -59,10 +59,10 @@ pub fn put_number<R: Record>(out: &mut [u8], number: u64)
     out.copy_from_slice(&bytes[8 - pointer_bytes::<R>()..]);
 }
 
-/// Writes the block of a neighbour.
-fn put_neighbour<R: Record>(out: &mut [u8], block: Option<u32>)
+/// Writes the block of a sibling.
+fn put_sibling<R: Record>(out: &mut [u8], block: Option<u32>)
     requires { length out.old ≡ pointer_size R.form }
-    ensures { out.new ≡ neighbour (pointer_size R.form) block }
+    ensures { out.new ≡ sibling (pointer_size R.form) block }
 {
     match block {
         Some(n) => put_number::<R>(out, u64::from(n)),
@@ -82,14 +82,14 @@ fn put_start<R: Record>(out: &mut [u8], level: u32, count: usize)
     BigEndian::write_u16(&mut out[BB_NUMRECS..BB_LEFTSIB], count as u16);
 }
 
-/// Writes both neighbours.
+/// Writes both siblings.
 fn put_links<R: Record>(out: &mut [u8], left: Option<u32>, right: Option<u32>)
     requires { length out.old ≡ 2 * pointer_size R.form }
-    ensures { out.new ≡ neighbour (pointer_size R.form) left ++ neighbour (pointer_size R.form) right }
+    ensures { out.new ≡ sibling (pointer_size R.form) left ++ sibling (pointer_size R.form) right }
 {
     let (first, second) = out.split_at_mut(pointer_bytes::<R>());
-    put_neighbour::<R>(first, left);
-    put_neighbour::<R>(second, right);
+    put_sibling::<R>(first, left);
+    put_sibling::<R>(second, right);
 }
 
 /// Writes the block's first sector, counted from the image's, and the image's identifier.
@@ -104,10 +104,10 @@ fn put_place(out: &mut [u8], block: u32, uuid: &[u8; UUID_BYTES])
     end.copy_from_slice(uuid);
 }
 
-/// Writes the owner, and zeros in the room behind it.
+/// Writes the owner, and zeros in the room after it.
 fn put_owner<R: Record>(out: &mut [u8], owner: u64)
-    requires { length out.old ≡ pointer_size R.form + (header_size R.form - sum_place R.form) }
-    ensures { out.new ≡ big_bytes (pointer_size R.form) owner ++ replicate (header_size R.form - sum_place R.form) 0 }
+    requires { length out.old ≡ pointer_size R.form + (header_size R.form - crc_place R.form) }
+    ensures { out.new ≡ big_bytes (pointer_size R.form) owner ++ replicate (header_size R.form - crc_place R.form) 0 }
 {
     let (first, zeros) = out.split_at_mut(pointer_bytes::<R>());
     put_number::<R>(first, owner);
@@ -122,8 +122,8 @@ pub(crate) fn put_header<R: Record>(out: &mut [u8], fields: &Header, count: usiz
     ensures { (site : Site) (place : Place) → IsHeader fields.now site place → out.new ≡ header R.form site place count }
 {
     let (start, rest) = out.split_at_mut(BB_LEFTSIB);
-    let (links, behind) = rest.split_at_mut(2 * pointer_bytes::<R>());
-    let (place, owner) = behind.split_at_mut(PLACE_BYTES);
+    let (links, after) = rest.split_at_mut(2 * pointer_bytes::<R>());
+    let (place, owner) = after.split_at_mut(PLACE_BYTES);
     put_start::<R>(start, fields.level, count);
     put_links::<R>(links, fields.left, fields.right);
     put_place(place, fields.block, &fields.uuid);
@@ -134,7 +134,7 @@ pub(crate) fn put_header<R: Record>(out: &mut [u8], fields: &Header, count: usiz
 pub fn seal<R: Record>(block: &mut Block)
     ensures { block.new ≡ sealed R.form block.old }
 {
-    let at = checksum_place::<R>();
+    let at = crc_place::<R>();
     let sum = crc32c_without(block, at);
     LittleEndian::write_u32(&mut block[at..at + 4], sum);
 }
@@ -147,15 +147,15 @@ pub(crate) fn put_count(block: &mut Block, count: usize)
     BigEndian::write_u16(&mut block[BB_NUMRECS..BB_NUMRECS + 2], count as u16);
 }
 
-/// Writes a neighbour at a place of a header.
+/// Writes a sibling at a place of a header.
 fn link<R: Record>(block: &mut Block, at: usize, other: Option<u32>)
     requires { at + pointer_size R.form ≤ BLOCK_BYTES }
-    ensures { block.new ≡ overlaid at (neighbour (pointer_size R.form) other) block.old }
+    ensures { block.new ≡ overlaid at (sibling (pointer_size R.form) other) block.old }
 {
-    put_neighbour::<R>(&mut block[at..at + pointer_bytes::<R>()], other);
+    put_sibling::<R>(&mut block[at..at + pointer_bytes::<R>()], other);
 }
 
-/// Gives a block another left neighbour.
+/// Gives a block another left sibling.
 pub fn set_left<R: Record>(block: &mut Block, left: Option<u32>)
     ensures { (site : Site) (place : Place) (count : ℕ) (items : List ℕ) → length site.uuid ≡ 16
         → sealed R.form block.old ≡ tree_block R.form site place count items → sealed R.form block.new ≡ tree_block R.form site (with_left left place) count items }

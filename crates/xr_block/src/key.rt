@@ -8,7 +8,7 @@ ghost use Rattle.xr_block.specs.Rows.{greater_key, greatest_key, key_of_entries,
 ghost use Rattle.xr_block.specs.TreeBlock.{Entry, count_in, entries_in, records_in};
 ghost use Rattle.xr_block.specs.NodeEntries.{high_part};
 
-use crate::read::{count_of, key_at, tested_record};
+use crate::read::{checked_record, count_of, key_at};
 use xr_kinds::Record;
 use xr_pool::Block;
 
@@ -69,10 +69,10 @@ pub fn put_greatest<R: Record>(block: &Block, next: &mut [u8], out: &mut [u8])
         return;
     }
     let mut k = count_of(block) - 1;
-    tested_record::<R>(block, k).put_high(out);
+    checked_record::<R>(block, k).put_high(out);
     while k > 0 {
         k -= 1;
-        tested_record::<R>(block, k).put_high(next);
+        checked_record::<R>(block, k).put_high(next);
         keep_greater(next, out);
     }
 }
@@ -112,7 +112,7 @@ pub fn is_key_of_leaf<R: Record>(block: &Block, key: &[u8]) -> bool
     requires long { length key.now ≡ key_size R.form }
     ensures { IsTrue result ↔ key.now ≡ key_of_records R.form (records_in R.form block.now) }
 {
-    let low = is_low::<R>(tested_record::<R>(block, 0), &key[..R::LOW]);
+    let low = is_low::<R>(checked_record::<R>(block, 0), &key[..R::LOW]);
     let high = is_greatest::<R>(block, &key[R::LOW..]);
     both(low, high)
 }

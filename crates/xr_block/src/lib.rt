@@ -14,13 +14,15 @@ pub mod key;
 mod laws;
 mod put_key;
 pub mod read;
+mod root;
 pub mod search;
 pub mod siblings;
 #[cfg(test)]
 mod tests;
 
-pub use edit_leaf::{build_leaf, cut_record, gather_leaf, put_record, set_record};
-pub use edit_node::{build_node, cut_entry, gather_node, put_entry, set_key};
+pub use edit_leaf::{build_leaf, gather_leaf, insert_record, remove_record, replace_record};
+pub use edit_node::{build_node, gather_node, insert_entry, remove_entry, set_key};
 pub use header::{Header, put_number, seal, set_left};
 pub use laws::{changes_follow, other_trees_stay};
 pub use put_key::{put_key_of_leaf, put_key_of_node};
+pub use root::Root;

@@ -6,7 +6,7 @@ ghost use Rattle.xr_block.specs.TreeBlock.{count_in, entries_in, records_in};
 ghost use Rattle.xr_block.specs.Checks.{HoldsRecords};
 
 use crate::key::{KEY_ROOM, greatest_high, key_fits, put_greatest};
-use crate::read::{low_key_at, tested_record};
+use crate::read::{checked_record, low_key_at};
 use xr_kinds::Record;
 use xr_pool::Block;
 
@@ -20,7 +20,7 @@ pub fn put_key_of_leaf<R: Record>(block: &Block, out: &mut [u8])
     key_fits::<R>();
     let mut room = [0; KEY_ROOM];
     let (low, high) = out.split_at_mut(R::LOW);
-    tested_record::<R>(block, 0).put_low(low);
+    checked_record::<R>(block, 0).put_low(low);
     put_greatest::<R>(block, &mut room[..R::HIGH], high);
 }
 

@@ -53,7 +53,7 @@ pub fn record_at<R: Record>(block: &Block, k: usize) -> Option<R>
 }
 
 /// A record of a leaf whose records were tested.
-pub fn tested_record<R: Record>(block: &Block, k: usize) -> R
+pub fn checked_record<R: Record>(block: &Block, k: usize) -> R
     requires tested { HoldsRecords R.form block.now }
     requires within { k < count_in block.now }
     ensures value { (d : R) → result ≡ slice_index_or (records_in R.form block.now) k d }

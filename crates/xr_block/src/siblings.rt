@@ -1,7 +1,7 @@
-//! The neighbours of a block in its level, as its header names them.
+//! The siblings of a block in its level, as its header names them.
 ghost use Rattle.std.specs.Prelude.{◌≡◌, ◌+◌, ◌≤◌, drop};
 ghost use Rattle.xr_kinds.specs.Form.{pointer_size};
-ghost use Rattle.xr_block.specs.Checks.{left_in, neighbour_in, right_in};
+ghost use Rattle.xr_block.specs.Checks.{left_in, sibling_in, right_in};
 
 use crate::read::pointer_bytes;
 use xr_base::geometry::BLOCK_BYTES;
@@ -10,10 +10,10 @@ use xr_base::{be32_at, be64_at};
 use xr_kinds::Record;
 use xr_pool::Block;
 
-/// The neighbour that stands at a place, if there is one.
-fn neighbour_at<R: Record>(block: &Block, at: usize) -> Option<u64>
+/// The sibling that stands at a place, if there is one.
+fn sibling_at<R: Record>(block: &Block, at: usize) -> Option<u64>
     requires { at + pointer_size R.form ≤ BLOCK_BYTES }
-    ensures { result ≡ neighbour_in (pointer_size R.form) (drop at block.now) }
+    ensures { result ≡ sibling_in (pointer_size R.form) (drop at block.now) }
 {
     if R::LONG {
         let number = be64_at(block, at);
@@ -36,12 +36,12 @@ fn neighbour_at<R: Record>(block: &Block, at: usize) -> Option<u64>
 pub fn left_of<R: Record>(block: &Block) -> Option<u64>
     ensures { result ≡ left_in R.form block.now }
 {
-    neighbour_at::<R>(block, BB_LEFTSIB)
+    sibling_at::<R>(block, BB_LEFTSIB)
 }
 
 /// The block to the right.
 pub fn right_of<R: Record>(block: &Block) -> Option<u64>
     ensures { result ≡ right_in R.form block.now }
 {
-    neighbour_at::<R>(block, BB_LEFTSIB + pointer_bytes::<R>())
+    sibling_at::<R>(block, BB_LEFTSIB + pointer_bytes::<R>())
 }

@@ -1,11 +1,12 @@
 //! A leaf and a node edited in each way, tested as blocks of a tree, with their items' bytes written out.
 
-use crate::check::{test_leaf, test_node};
+use crate::check::{check_leaf, check_node};
 use crate::read::count_of;
 use crate::siblings::{left_of, right_of};
 use crate::{
-    Header, build_leaf, build_node, cut_entry, cut_record, gather_leaf, gather_node, put_entry,
-    put_key_of_leaf, put_key_of_node, put_record, seal, set_key, set_left, set_record,
+    Header, build_leaf, build_node, gather_leaf, gather_node, insert_entry, insert_record,
+    put_key_of_leaf, put_key_of_node, remove_entry, remove_record, replace_record, seal, set_key,
+    set_left,
 };
 use std::process::Abort;
 use std::test::Fail;
@@ -29,7 +30,7 @@ const OTHER_KEY: &[u8] =
 /// Block 1 of a pool is a leaf with these records.
 fn is_leaf(rt: &impl Abort, over: &Overlay, block: &Block, records: &[u8]) {
     assert!(rt; over.len() == 8 && records.len() <= 64);
-    assert!(rt; test_leaf::<ByBlock>(over, 1, 0, block).is_ok());
+    assert!(rt; check_leaf::<ByBlock>(over, 1, 0, block).is_ok());
     assert!(rt;
         count_of(block) * 8 == records.len() && block[56..56 + records.len()] == records[..]
     );
@@ -38,7 +39,7 @@ fn is_leaf(rt: &impl Abort, over: &Overlay, block: &Block, records: &[u8]) {
 /// Block 1 of a pool is a node with these keys and pointers.
 fn is_node(rt: &impl Abort, over: &Overlay, block: &Block, keys: &[u8], pointers: &[u8]) {
     assert!(rt; over.len() == 8 && keys.len() <= 160 && pointers.len() <= 16);
-    assert!(rt; test_node::<Reverse>(over, 1, 1, 0, block).is_ok());
+    assert!(rt; check_node::<Reverse>(over, 1, 1, 0, block).is_ok());
     assert!(rt; count_of(block) * 4 == pointers.len() && block[56..56 + keys.len()] == keys[..]);
     assert!(rt; block[3696..3696 + pointers.len()] == pointers[..]);
 }
@@ -67,18 +68,18 @@ fn node_of(rt: &impl Abort, over: &Overlay, keys: &[u8], pointers: &[u8]) -> Blo
 fn put(rt: &impl Abort, block: &mut Block, k: usize, start: u32, len: u32) {
     let run = ByBlock { start, len };
     assert!(rt; run.valid() && k <= count_of(block) && count_of(block) < 500);
-    put_record(block, k, &run);
+    insert_record(block, k, &run);
 }
 
-fn cut(rt: &impl Abort, block: &mut Block, k: usize) {
+fn bound(rt: &impl Abort, block: &mut Block, k: usize) {
     assert!(rt; k < count_of(block) && count_of(block) <= 500);
-    cut_record::<ByBlock>(block, k);
+    remove_record::<ByBlock>(block, k);
 }
 
 fn set(rt: &impl Abort, block: &mut Block, k: usize, start: u32, len: u32) {
     let run = ByBlock { start, len };
     assert!(rt; run.valid() && k < count_of(block) && count_of(block) <= 500);
-    set_record(block, k, &run);
+    replace_record(block, k, &run);
 }
 
 fn overlay(rt: &HostRuntime) -> Result<Overlay, Fail> {
@@ -88,7 +89,7 @@ fn overlay(rt: &HostRuntime) -> Result<Overlay, Fail> {
 }
 
 #[test]
-fn records_are_put_and_cut_and_set(rt: HostRuntime) -> Result<(), Fail> {
+fn records_are_inserted_removed_and_replaced(rt: HostRuntime) -> Result<(), Fail> {
     let over = overlay(&rt)?;
     let mut block = leaf_of(&rt, &over, RUNS);
     is_leaf(&rt, &over, &block, RUNS);
@@ -102,7 +103,7 @@ fn records_are_put_and_cut_and_set(rt: HostRuntime) -> Result<(), Fail> {
     );
     // Two edits, and the checksum once.
     set(&rt, &mut block, 2, 531, 3);
-    cut(&rt, &mut block, 0);
+    bound(&rt, &mut block, 0);
     seal::<ByBlock>(&mut block);
     is_leaf(
         &rt,
@@ -113,14 +114,14 @@ fn records_are_put_and_cut_and_set(rt: HostRuntime) -> Result<(), Fail> {
     Ok(())
 }
 
-fn put_child(rt: &impl Abort, block: &mut Block, k: usize, key: &[u8], child: u32) {
+fn insert_child(rt: &impl Abort, block: &mut Block, k: usize, key: &[u8], child: u32) {
     assert!(rt; key.len() == 40 && k <= count_of(block) && count_of(block) < 90);
-    put_entry::<Reverse>(block, k, key, child);
+    insert_entry::<Reverse>(block, k, key, child);
 }
 
-fn cut_child(rt: &impl Abort, block: &mut Block, k: usize) {
+fn remove_child(rt: &impl Abort, block: &mut Block, k: usize) {
     assert!(rt; k < count_of(block) && count_of(block) <= 90);
-    cut_entry::<Reverse>(block, k);
+    remove_entry::<Reverse>(block, k);
 }
 
 fn set_child_key(rt: &impl Abort, block: &mut Block, k: usize, key: &[u8]) {
@@ -129,16 +130,16 @@ fn set_child_key(rt: &impl Abort, block: &mut Block, k: usize, key: &[u8]) {
 }
 
 #[test]
-fn children_are_put_and_cut_and_keyed(rt: HostRuntime) -> Result<(), Fail> {
+fn children_are_inserted_removed_and_keyed(rt: HostRuntime) -> Result<(), Fail> {
     let over = overlay(&rt)?;
     let mut block = node_of(&rt, &over, KEYS, b"\x00\x00\x00\x02\x00\x00\x00\x03");
-    put_child(&rt, &mut block, 0, OTHER_KEY, 258);
-    cut_child(&rt, &mut block, 2);
+    insert_child(&rt, &mut block, 0, OTHER_KEY, 258);
+    remove_child(&rt, &mut block, 2);
     set_child_key(&rt, &mut block, 0, &KEYS[40..]);
-    put_child(&rt, &mut block, 2, OTHER_KEY, 4);
-    cut_child(&rt, &mut block, 0);
-    put_child(&rt, &mut block, 1, &KEYS[40..], 3);
-    cut_child(&rt, &mut block, 2);
+    insert_child(&rt, &mut block, 2, OTHER_KEY, 4);
+    remove_child(&rt, &mut block, 0);
+    insert_child(&rt, &mut block, 1, &KEYS[40..], 3);
+    remove_child(&rt, &mut block, 2);
     seal::<Reverse>(&mut block);
     is_node(
         &rt,
@@ -151,7 +152,7 @@ fn children_are_put_and_cut_and_keyed(rt: HostRuntime) -> Result<(), Fail> {
 }
 
 #[test]
-fn neighbours_are_set(rt: HostRuntime) -> Result<(), Fail> {
+fn siblings_are_set(rt: HostRuntime) -> Result<(), Fail> {
     let over = overlay(&rt)?;
     let mut block = leaf_of(&rt, &over, RUNS);
     assert!(rt; left_of::<ByBlock>(&block).is_none() && right_of::<ByBlock>(&block) == Some(3));
@@ -261,7 +262,7 @@ fn a_node_gives_a_key(rt: HostRuntime) -> Result<(), Fail> {
 /// The key of a leaf that was tested.
 fn key_of_leaf(rt: &impl Abort, over: &Overlay, block: &Block, key: &mut [u8; 40]) {
     assert!(rt; over.len() == 8);
-    assert!(rt; test_leaf::<Reverse>(over, 1, 1, block).is_ok());
+    assert!(rt; check_leaf::<Reverse>(over, 1, 1, block).is_ok());
     put_key_of_leaf::<Reverse>(block, key);
 }
 

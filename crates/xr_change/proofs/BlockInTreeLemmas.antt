@@ -18,16 +18,16 @@ use Rattle.xr_change.proofs.SetLemmas.{IsPlaceFor, stands_at}
 use Rattle.xr_change.specs.Alters.{Alters, AreKnown}
 use Rattle.xr_change.specs.Changes.{Changes}
 use Rattle.xr_change.specs.Draft.{ReadsAs}
-use Rattle.xr_change.specs.Regroups.{place_of}
-use Rattle.xr_change.specs.Ways.{IsInTree, item_count}
+use Rattle.xr_change.specs.Regroups.{place_named}
+use Rattle.xr_change.specs.Paths.{IsInTree, item_count}
 use Rattle.xr_change.specs.Writes.{WritesOnly, Writes}
 use Rattle.xr_block.specs.EditLaws.{leaf_count, leaf_of_whole, leaf_records}
 use Rattle.xr_block.specs.Edits.{IsLeafOf, sealed}
 use Rattle.xr_block.specs.DescentLaws.{leaf_is, leaf_parted, node_few}
 use Rattle.xr_block.specs.Bounds.{IsParted, IsPlaceOf, is_before}
 use Rattle.xr_block.specs.Leaf.{IsLeaf}
-use Rattle.xr_block.specs.declared.bound.Cut.{Cut}
-use Rattle.xr_block.specs.declared.bound.Cut.TheVariants.{Before}
+use Rattle.xr_block.specs.declared.bound.Bound.{Bound}
+use Rattle.xr_block.specs.declared.bound.Bound.TheVariants.{Before}
 use Rattle.xr_block.specs.Under.{IsUnder}
 use Rattle.xr_block.specs.NodeEntryLaws.{length-entries}
 
@@ -66,22 +66,22 @@ module _ {X : Type 0} (form : Form X) (laws : IsForm form) (b : Blocks) (known :
 
   own_place : (place : Place) × IsLeafOf form (site_of b) place held (block_at b n)
   own_place =
-      let whole = (whole_leaf form (site_of b) (tree_held form b) here.least (place_of form b zero n) (block_at b n)).0
+      let whole = (whole_leaf form (site_of b) (tree_held form b) here.least (place_named form b zero n) (block_at b n)).0
       (row_whole form laws b known here.least zero (here.pre ++ n ∷ here.post) here.rows n (in_row form b zero n here)) in
-      (place_of form b zero n, leaf_here (place_of form b zero n) whole.whole whole.most_items)
+      (place_named form b zero n, leaf_here (place_named form b zero n) whole.whole whole.most_items)
 
   pub leaf_counts : (old : List ℕ) → ReadsAs form old (block_at b n) → (count_in old ≡ length held) × (count_in old ≤ form.leaf_max)
   leaf_counts old reads =
       let count = reads.count ∙ leaf_count form laws (site_of b) own_place.0 (block_at b n) held own_place.1 in (count, omega (arith, count, own_place.1.few))
 
   -- where a record is looked for, and where it is found
-  pub leaf_sought : (old : List ℕ) → ReadsAs form old (block_at b n) → (cut : Cut X) → IsLeaf form old × IsParted (is_before form cut) (records_in form old)
-  leaf_sought old reads cut =
+  pub leaf_sought : (old : List ℕ) → ReadsAs form old (block_at b n) → (bound : Bound X) → IsLeaf form old × IsParted (is_before form bound) (records_in form old)
+  leaf_sought old reads bound =
       let under = is_under form b zero n here in
       let is = leaf_is form laws b n under in
       let same = read_records form old (block_at b n) reads in (
         record { counted = ap length same ∙ is.counted ∙ sym reads.count; few = omega (arith, reads.count, is.few) },
-        subst (IsParted (is_before form cut)) (sym same) (leaf_parted form laws b n under cut),
+        subst (IsParted (is_before form bound)) (sym same) (leaf_parted form laws b n under bound),
       )
 
   pub leaf_found : (old : List ℕ) → ReadsAs form old (block_at b n) → (r : X) (k : ℕ) → IsPlaceOf (is_before form (Before r)) (records_in form old) k

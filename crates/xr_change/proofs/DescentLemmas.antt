@@ -8,7 +8,7 @@ use Rattle.std.specs.declared.cmp.Ordering.TheVariants.{Less}
 use Rattle.xr_block.specs.TimesLaws.{found_in}
 use Rattle.xr_kinds.specs.Form.{Form, IsForm}
 use Rattle.xr_pool.specs.Overlay.{Blocks, block_at, changed_blocks}
-use Rattle.xr_block.specs.Rows.{half, named_below}
+use Rattle.xr_block.specs.Rows.{min_records, named_below}
 use Rattle.xr_block.specs.Tree.{records_of, site_of, tree_held}
 use Rattle.xr_block.specs.TreeBlock.{Entry, entries_in}
 use Rattle.xr_change.proofs.SameItemLemmas.{row_linked}
@@ -19,10 +19,10 @@ use Rattle.xr_change.proofs.NodeContextLemmas.{children_around, row_has}
 use Rattle.xr_change.proofs.WriteLemmas.{one_around, unchanged_less}
 use Rattle.xr_change.proofs.SetLemmas.{front_below, inserted_between, removed_between, replaced_between}
 use Rattle.xr_change.specs.Alters.{AreRowsIn, IsWholeAt}
-use Rattle.xr_change.specs.Changes.{HasWay}
+use Rattle.xr_change.specs.Changes.{HasPath}
 use Rattle.xr_change.specs.Regroups.{IsSameUnder}
 use Rattle.xr_change.specs.Sets.{inserted, removed, replaced}
-use Rattle.xr_change.specs.Ways.{IsInTree, IsWay, child_of, item_count}
+use Rattle.xr_change.specs.Paths.{IsInTree, IsOnPath, child_of, item_count}
 use Rattle.xr_change.specs.Writes.{is_changed, unchanged}
 use Rattle.xr_block.specs.PartLaws.{all_left, all_right, pairs_left, pairs_right}
 use Rattle.xr_block.specs.UnderLaws.{linked_at}
@@ -51,12 +51,12 @@ module _ {X : Type 0} (form : Form X) (b : Blocks) where
         ≡ records_of form b level (take k names) ++ (records_of form b level (child_of form b n k ∷ []) ++ records_of form b level (drop (suc k) names))
     records_around = records_under_node form b level n (take k names) (child_of form b n k ∷ []) (drop (suc k) names) names_around
 
-    pub child_in_rows : AreRowsIn form b (half form level) level ((children form b here.pre ++ take k names) ++ child_of form b n k ∷ (drop (suc k) names ++ children form b here.post))
-    child_in_rows = subst (AreRowsIn form b (half form level) level) row_around (below form b here.least level (here.pre ++ n ∷ here.post) here.rows)
+    pub child_in_rows : AreRowsIn form b (min_records form level) level ((children form b here.pre ++ take k names) ++ child_of form b n k ∷ (drop (suc k) names ++ children form b here.post))
+    child_in_rows = subst (AreRowsIn form b (min_records form level) level) row_around (below form b here.least level (here.pre ++ n ∷ here.post) here.rows)
 
     pub child_in_tree : IsInTree form b level (child_of form b n k)
     child_in_tree = record {
-      least = half form level;
+      least = min_records form level;
       pre = children form b here.pre ++ take k names;
       post = drop (suc k) names ++ children form b here.post;
       rows = child_in_rows;
@@ -68,8 +68,8 @@ module _ {X : Type 0} (form : Form X) (b : Blocks) where
           (pairs_right (λ (x y : X). form.agree x y ≡ true) (records_of form b level (take k names)) _ (subst (AllPairs (λ (x y : X). form.agree x y ≡ true)) records_around here.agree));
     }
 
-    pub child_least : half form level ≤ item_count form b level (child_of form b n k)
-    child_least = row_least (half form level) level _ (child_of form b n k) _ child_in_rows
+    pub child_least : min_records form level ≤ item_count form b level (child_of form b n k)
+    child_least = row_least (min_records form level) level _ (child_of form b n k) _ child_in_rows
 
 -- a block that keeps its records is in its row still, whatever it has of items
 pub in_tree_still : {X : Type 0} (form : Form X) (a b : Blocks) (level n : ℕ) → IsInTree form a level n → IsSameUnder form a b 0 level n → IsInTree form b level n
@@ -83,7 +83,7 @@ in_tree_still {X = X} form a b level n here same = record {
   agree = subst (AllPairs (λ (x y : X). form.agree x y ≡ true)) (sym same.records) here.agree;
 }
 
--- the way down to a child, in a node that keeps its records, and what of them the change is one of
+-- the path down to a child, in a node that keeps its records, and what of them the change is one of
 module _ {X : Type 0} (form : Form X) (laws : IsForm form) (s : Blocks) (level n k : ℕ) (here : IsInTree form s (suc level) n) (within : k < length (entries_in form (block_at s n))) where
   abbrev front : List X
   front = records_of form s level (take k (names form s level n k here within))
@@ -91,16 +91,16 @@ module _ {X : Type 0} (form : Form X) (laws : IsForm form) (s : Blocks) (level n
   abbrev own : List X
   own = records_of form s level (child_of form s n k ∷ [])
 
-  abbrev behind : List X
-  behind = records_of form s level (drop (suc k) (names form s level n k here within))
+  abbrev after : List X
+  after = records_of form s level (drop (suc k) (names form s level n k here within))
 
-  pub way_for : (a : Blocks) (lost : ℕ) (change : List X → List X) → ((floor : ℕ) → floor + lost ≤ item_count form a (suc level) n → IsSameUnder form a s floor (suc level) n)
-      → lost ≤ item_count form a (suc level) n → half form level + lost ≤ item_count form s level (child_of form s n k)
-      → change (front ++ (own ++ behind)) ≡ front ++ (change own ++ behind)
+  pub path_for : (a : Blocks) (lost : ℕ) (change : List X → List X) → ((floor : ℕ) → floor + lost ≤ item_count form a (suc level) n → IsSameUnder form a s floor (suc level) n)
+      → lost ≤ item_count form a (suc level) n → min_records form level + lost ≤ item_count form s level (child_of form s n k)
+      → change (front ++ (own ++ after)) ≡ front ++ (change own ++ after)
       → ((m : ℕ) → is_changed a m ≡ true → is_changed s m ≡ true)
       → length (changed_blocks s) + unchanged s (child_of form s n k) + unchanged s n ≤ length (changed_blocks a) + unchanged a n + 3
-      → HasWay form a s lost level n k change
-  way_for a lost change same some least there stay few = record {
+      → HasPath form a s lost level n k change
+  path_for a lost change same some least there stay few = record {
     same = same;
     here = here;
     within = within;
@@ -111,35 +111,35 @@ module _ {X : Type 0} (form : Form X) (laws : IsForm form) (s : Blocks) (level n
   }
 
   -- where nothing was rearranged
-  pub way_here : (lost : ℕ) (change : List X → List X) → lost ≤ item_count form s (suc level) n → half form level + lost ≤ item_count form s level (child_of form s n k)
-      → change (front ++ (own ++ behind)) ≡ front ++ (change own ++ behind) → HasWay form s s lost level n k change
-  way_here lost change some least there =
-      way_for s lost change (λ floor low. record { alters = alters_same form s floor (suc level) n; records = refl }) some least there (λ m is. is)
+  pub path_here : (lost : ℕ) (change : List X → List X) → lost ≤ item_count form s (suc level) n → min_records form level + lost ≤ item_count form s level (child_of form s n k)
+      → change (front ++ (own ++ after)) ≡ front ++ (change own ++ after) → HasPath form s s lost level n k change
+  path_here lost change some least there =
+      path_for s lost change (λ floor low. record { alters = alters_same form s floor (suc level) n; records = refl }) some least there (λ m is. is)
       (omega (arith, unchanged_less false (is_changed s (child_of form s n k)) (λ lie. absurd cc)))
 
   module _ (r : X) where
-    pub inserted_there : IsWay form s level n r k → inserted form.order r (front ++ (own ++ behind)) ≡ front ++ (inserted form.order r own ++ behind)
-    inserted_there way = inserted_between form.order laws.total r front own behind way.before way.behind
+    pub inserted_there : IsOnPath form s level n r k → inserted form.order r (front ++ (own ++ after)) ≡ front ++ (inserted form.order r own ++ after)
+    inserted_there path = inserted_between form.order laws.total r front own after path.before path.after
 
     below_held : Contains own r → All (λ (x : X). form.order x r ≡ Less) front
     below_held found =
-        front_below form.order front (own ++ behind) r (subst (AllPairs (λ (x y : X). form.order x y ≡ Less)) (records_around form s level n k here within) here.ascend)
-        (Contains-append_left own behind r found)
+        front_below form.order front (own ++ after) r (subst (AllPairs (λ (x y : X). form.order x y ≡ Less)) (records_around form s level n k here within) here.ascend)
+        (Contains-append_left own after r found)
 
-    pub removed_there : Contains own r → removed form.order r (front ++ (own ++ behind)) ≡ front ++ (removed form.order r own ++ behind)
-    removed_there found = removed_between form.order laws.total r front own behind (below_held found) found
+    pub removed_there : Contains own r → removed form.order r (front ++ (own ++ after)) ≡ front ++ (removed form.order r own ++ after)
+    removed_there found = removed_between form.order laws.total r front own after (below_held found) found
 
-    pub replaced_there : (new : X) → Contains own r → replaced form.order r new (front ++ (own ++ behind)) ≡ front ++ (replaced form.order r new own ++ behind)
-    replaced_there new found = replaced_between form.order laws.total r new front own behind (below_held found) found
+    pub replaced_there : (new : X) → Contains own r → replaced form.order r new (front ++ (own ++ after)) ≡ front ++ (replaced form.order r new own ++ after)
+    replaced_there new found = replaced_between form.order laws.total r new front own after (below_held found) found
 
-    -- a record stands under the child on its way
-    pub held_on_way : IsWay form s level n r k → Contains (records_of form s (level + 1) (n ∷ [])) r → Contains own r
-    held_on_way way found =
+    -- a record stands under the child on its path
+    pub held_on_path : IsOnPath form s level n r k → Contains (records_of form s (level + 1) (n ∷ [])) r → Contains own r
+    held_on_path path found =
         let apart : form.order r r ≡ Less → ⊥ = λ less. let lie = sym less ∙ tied_itself laws.total r in absurd cc in
         ⊎_elim
-        (λ (in_front : Contains front r). absurd (apart (All-contains (λ (x : X). form.order x r ≡ Less) front r way.before in_front)))
-        (λ (rest : Contains (own ++ behind) r). ⊎_elim
+        (λ (in_front : Contains front r). absurd (apart (All-contains (λ (x : X). form.order x r ≡ Less) front r path.before in_front)))
+        (λ (rest : Contains (own ++ after) r). ⊎_elim
         (λ (there : Contains own r). there)
-        (λ (after : Contains behind r). absurd (apart (All-contains (λ (x : X). form.order r x ≡ Less) behind r way.behind after)))
-        (Contains-append_cases own behind r rest))
-        (Contains-append_cases front (own ++ behind) r (rw (one_more level, records_around form s level n k here within) at found))
+        (λ (found_after : Contains after r). absurd (apart (All-contains (λ (x : X). form.order r x ≡ Less) after r path.after found_after)))
+        (Contains-append_cases own after r rest))
+        (Contains-append_cases front (own ++ after) r (rw (one_more level, records_around form s level n k here within) at found))

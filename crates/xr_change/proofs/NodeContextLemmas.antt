@@ -1,11 +1,11 @@
--- Rows that are linked, cut in two and joined, and some blocks of a row with what stands beside them there.
+-- Rows that are linked, bound in two and joined, and some blocks of a row with what stands beside them there.
 use Rattle.std.proofs.Common.{◌≡◌, ℕ, ◌+◌, ◌≤◌, Option, Some, None, List, [], ◌∷◌, ◌++◌, refl, sym, ap, subst, arith, inl, inr, ◌⊎◌, suc, ◌∙◌, append_assoc}
 use Rattle.std.proofs.lemmas.List.Concat.{flat_map-append}
 use Rattle.std.specs.List.{last_or}
 use Rattle.xr_block.specs.TimesLaws.{times_more, times_same}
 use Rattle.xr_kinds.specs.Form.{Form, IsForm}
 use Rattle.xr_pool.specs.Overlay.{Blocks, block_at}
-use Rattle.xr_block.specs.Rows.{AreLinked, first_of, half, named_below}
+use Rattle.xr_block.specs.Rows.{AreLinked, first_of, min_records, named_below}
 use Rattle.xr_block.specs.Times.{times}
 use Rattle.xr_block.specs.Tree.{blocks_of, site_of, tree_held}
 use Rattle.xr_block.specs.TreeBlock.{Place}
@@ -48,7 +48,7 @@ module _ (P : Place → List ℕ → Type 0) (at : ℕ → List ℕ) (level : �
   linked_joined left [] ys right front rest = rest
   linked_joined left (x ∷ xs) ys right front rest = (rw (first_of-append xs ys right) front.0, linked_joined (Some x) xs ys right front.1 rest)
 
-  -- the last block stands in the row, and its right neighbour behind it
+  -- the last block stands in the row, and its right sibling after it
   pub linked_last : (left : Option ℕ) (x : ℕ) (xs : List ℕ) (right : Option ℕ) (last : ℕ) → last_or (Some x) xs ≡ Some last → AreLinked P at level left (x ∷ xs) right
       → (l : Option ℕ) × P (record { number = last; level = level; left = l; right = right }) (at last)
   unfolding AreLinked
@@ -73,7 +73,7 @@ module _ (P Q : Place → List ℕ → Type 0) (at now : ℕ → List ℕ) (leve
     linked_stays (Some n) ns right (λ place low some. each place low (omega (arith, some, times_more place.number n ns))) linked.1,
   )
 
-  -- the first has another left neighbour
+  -- the first has another left sibling
   pub linked_after : (left left' : Option ℕ) (row : List ℕ) (right : Option ℕ) → ((m : ℕ) → times m row ≤ 1)
       → ((q : ℕ) → first_of row None ≡ Some q → (place : Place) → place.number ≡ q → place.level ≡ level → place.left ≡ left
       → P place (at q) → Q (record place { left = left' }) (now q))
@@ -99,19 +99,19 @@ first_within [] q is = absurd cc
 first_within (x ∷ xs) q is = let same : x ≡ q = cc in rw (← same) (omega (arith, times_same x xs))
 
 -- the row of the children of a row of nodes, by some children of one
-module _ {X : Type 0} (form : Form X) (b : Blocks) (n : ℕ) (front old behind : List ℕ) (named : named_below (tree_held form b) n ≡ front ++ (old ++ behind)) (pre post : List ℕ) where
-  pub children_around : children form b (pre ++ n ∷ post) ≡ (children form b pre ++ front) ++ (old ++ (behind ++ children form b post))
+module _ {X : Type 0} (form : Form X) (b : Blocks) (n : ℕ) (front old after : List ℕ) (named : named_below (tree_held form b) n ≡ front ++ (old ++ after)) (pre post : List ℕ) where
+  pub children_around : children form b (pre ++ n ∷ post) ≡ (children form b pre ++ front) ++ (old ++ (after ++ children form b post))
   children_around =
-      flat_map-append (named_below (tree_held form b)) pre (n ∷ post) ∙ rw named (row_joined (children form b pre) front old behind (children form b post))
+      flat_map-append (named_below (tree_held form b)) pre (n ∷ post) ∙ rw named (row_joined (children form b pre) front old after (children form b post))
 
   pub rows_among : (least level : ℕ) → AreRowsIn form b least (suc level) (pre ++ n ∷ post)
-      → AreRowsIn form b (half form level) level ((children form b pre ++ front) ++ (old ++ (behind ++ children form b post)))
-  rows_among least level rows = subst (AreRowsIn form b (half form level) level) children_around (below form b least level (pre ++ n ∷ post) rows)
+      → AreRowsIn form b (min_records form level) level ((children form b pre ++ front) ++ (old ++ (after ++ children form b post)))
+  rows_among least level rows = subst (AreRowsIn form b (min_records form level) level) children_around (below form b least level (pre ++ n ∷ post) rows)
 
 -- some blocks of a row, and what stands beside them there
-module _ {X : Type 0} (form : Form X) (b : Blocks) (level : ℕ) (pre old post : List ℕ) (rows : AreRowsIn form b (half form level) level (pre ++ (old ++ post))) where
+module _ {X : Type 0} (form : Form X) (b : Blocks) (level : ℕ) (pre old post : List ℕ) (rows : AreRowsIn form b (min_records form level) level (pre ++ (old ++ post))) where
   abbrev P : Place → List ℕ → Type 0
-  P = IsWholeAt form (site_of b) (tree_held form b) level (half form level)
+  P = IsWholeAt form (site_of b) (tree_held form b) level (min_records form level)
 
   pub counted : (m : ℕ) → times m (blocks_of form b level (pre ++ (old ++ post)))
       ≡ (times m pre + (times m old + times m post)) + times m (blocks_below form b level (pre ++ (old ++ post)))
@@ -121,20 +121,20 @@ module _ {X : Type 0} (form : Form X) (b : Blocks) (level : ℕ) (pre old post :
       × AreLinked P (block_at b) level (last_or None pre) old (first_of post None) × AreLinked P (block_at b) level (last_or (last_or None pre) old) post None
   row_parts =
       let parts = linked_apart P (block_at b) level None pre (old ++ post) None
-      (row_linked form (site_of b) (block_at b) (tree_held form b) (half form level) level (pre ++ (old ++ post)) rows.rows) in
+      (row_linked form (site_of b) (block_at b) (tree_held form b) (min_records form level) level (pre ++ (old ++ post)) rows.rows) in
       let rest = linked_apart P (block_at b) level (last_or None pre) old post None parts.1 in (parts.0, rest.0, rest.1)
 
   module _ (c : ℕ) (olds : List ℕ) (is : old ≡ c ∷ olds) (last : ℕ) (found : last_or (Some c) olds ≡ Some last) where
-    -- the first behind them is whole at a place right of the last
-    pub first_behind : (q : ℕ) → first_of post None ≡ Some q → (right : Option ℕ) × P (record { number = q; level = level; left = Some last; right = right }) (block_at b q)
-    first_behind q next = linked_first P (block_at b) level (Some last) post None q next (rw (is, found) at row_parts.2)
+    -- the first after them is whole at a place right of the last
+    pub first_after : (q : ℕ) → first_of post None ≡ Some q → (right : Option ℕ) × P (record { number = q; level = level; left = Some last; right = right }) (block_at b q)
+    first_after q next = linked_first P (block_at b) level (Some last) post None q next (rw (is, found) at row_parts.2)
 
     -- and the last of them names it
     pub last_names : (laws : IsForm form) (known : AreKnown b) → right_in form (block_at b last) ≡ first_of post None
     last_names laws known =
         let o : Option ℕ = last_or None pre in
         let whole = linked_last P (block_at b) level o c olds (first_of post None) last found (rw is at row_parts.1) in
-        right_read form laws b known (half form level) level (record { number = last; level = level; left = whole.0; right = first_of post None })
+        right_read form laws b known (min_records form level) level (record { number = last; level = level; left = whole.0; right = first_of post None })
         (rows.owned last (omega (arith, last_within c olds last found, ap (times last) is, counted last))).below
         (λ q next. (rows.owned q (omega (arith, first_within post q next, counted q))).below) whole.1
 

@@ -1,4 +1,4 @@
--- A split of a child of a node, a sharing of the items of two children, and a merge of two, step by step: the items are dealt, and the node gets the keys.
+-- A split of a child of a node, a sharing of the items of two children, and a merge of two, step by step: the items are moved, and the node gets the keys.
 use Rattle.std.proofs.Common.{◌≡◌, ℕ, suc, ◌+◌, ◌*◌, ◌^◌, ◌<◌, ◌≤◌, true, false, Option, Some, List, [], ◌∷◌, ◌++◌, length, map, take, drop, get_or, set, refl, sym, ap, ◌∙◌, subst, arith}
 use Rattle.std.proofs.lemmas.Bool.Decides.{nat_tests}
 use Rattle.std.proofs.lemmas.List.{drop-drop, get_or-set_other, length-drop, length-map, length-set}
@@ -16,15 +16,15 @@ use Rattle.xr_block.specs.TreeBlock.{Entry, Place, count_in, entries_in}
 use Rattle.xr_change.proofs.RowItemLemmas.{child_at, entry_later, items_counted, items_later}
 use Rattle.xr_change.proofs.ItemMoveLemmas.{not_next}
 use Rattle.xr_change.proofs.SameItemLemmas.{times_rows}
-use Rattle.xr_change.proofs.NodeChangeLemmas.{node_mends}
+use Rattle.xr_change.proofs.NodeChangeLemmas.{node_names}
 use Rattle.xr_change.proofs.NodeContextLemmas.{children_around, rows_among}
 use Rattle.xr_change.proofs.StepLemmas.{Edits, Has, has_count, has_edited, has_few, has_same, holds_now, keyed_is}
 use Rattle.xr_change.proofs.ParentLemmas.{ArePair, IsChild, apart_from, kth_child, kth_level, kth_node, kth_pair, kth_used, pair_around}
 use Rattle.xr_change.proofs.RegroupLemmas.{Moves, moves_below, moves_records, moves_takes}
 use Rattle.xr_change.proofs.RowBlockLemmas.{children, holds_same, times_parts}
 use Rattle.xr_change.proofs.WriteLemmas.{for_one, for_two, next_few, one_around, one_beside, set_around, set_then, taken_count, two_once, unchanged_less, unmarked_few, writes_again, written_only}
-use Rattle.xr_change.specs.Regroups.{Deals, HasKey, IsPlaced, Regroups, entry_for, items_in, place_of}
-use Rattle.xr_change.specs.Ways.{IsKth, child_of, item_count, item_most}
+use Rattle.xr_change.specs.Regroups.{MovesItems, GivesKey, IsBetweenSiblings, Regroups, entry_for, items_in, place_named}
+use Rattle.xr_change.specs.Paths.{IsChildAt, child_of, item_count, max_records}
 use Rattle.xr_change.specs.Writes.{MarksAtMost, Writes, is_changed, unchanged}
 use Rattle.xr_block.specs.Edits.{IsNodeOf, with_key}
 use Rattle.xr_block.specs.Checks.{right_in}
@@ -32,10 +32,10 @@ use Rattle.xr_block.specs.Checks.{right_in}
 -- what the next edit of the node asks for
 pub record IsReady {X : Type 0} (form : Form X) (a o : Blocks) (level n x : ℕ) : Type 0 where
   pub here : (n < pool_size o) × (x < pool_size o)
-  pub keyed : HasKey form level (block_at o x)
+  pub keyed : GivesKey form level (block_at o x)
   pub count : count_in (block_at o n) ≡ length (entries_in form (block_at a n))
 
-module _ {X : Type 0} {form : Form X} (laws : IsForm form) {a : Blocks} {level n k c : ℕ} (kth : IsKth form a level n k c) where
+module _ {X : Type 0} {form : Form X} (laws : IsForm form) {a : Blocks} {level n k c : ℕ} (kth : IsChildAt form a level n k c) where
   abbrev es : List Entry
   es = entries_in form (block_at a n)
 
@@ -46,7 +46,7 @@ module _ {X : Type 0} {form : Form X} (laws : IsForm form) {a : Blocks} {level n
   child = kth_child form laws a level n k c kth
 
   abbrev place : Place
-  place = place_of form a (suc level) n
+  place = place_named form a (suc level) n
 
   node : IsNodeOf form (site_of a) place es (block_at a n)
   node = kth_node form laws a level n k c kth
@@ -68,7 +68,7 @@ module _ {X : Type 0} {form : Form X} (laws : IsForm form) {a : Blocks} {level n
         → 1 ≤ times x (c ∷ news) → IsReady form a b level n x
     ready b entries x has long pool same there = record {
       here = (omega (arith, used.below, pool, moves.same.pool), omega (arith, moves.below x there, pool, moves.same.pool));
-      keyed = subst (HasKey form level) (sym same) (moves.keyed x there);
+      keyed = subst (GivesKey form level) (sym same) (moves.keyed x there);
       count = has_count form laws a n place node b entries has ∙ long;
     }
 
@@ -113,7 +113,7 @@ module _ {X : Type 0} {form : Form X} (laws : IsForm form) {a : Blocks} {level n
                 children = moves.around;
                 between = o;
                 takes = takes;
-                mends = node_mends form a o level n k t (c ∷ olds) (c ∷ news) moves.around takes at.least at.pre at.post at.rows z only
+                naming = node_names form a o level n k t (c ∷ olds) (c ∷ news) moves.around takes at.least at.pre at.post at.rows z only
                     (holds_now form laws a n place node z next has) (has_few form laws a n place node z next has);
                 items = items_later form a o z level (c ∷ olds) (c ∷ news) moves.items (λ m there. only.others m (moves.apart m there));
                 records = moves_records laws kth.known moves left right rows;
@@ -152,26 +152,26 @@ module _ {X : Type 0} {form : Form X} (laws : IsForm form) {a : Blocks} {level n
 
     -- what the dealing of the items asks for
     abbrev IsSplit : Blocks → Type 0
-    IsSplit x = (level < 2 ^ 16) × IsPlaced form x level c × (item_count form x level c ≡ item_most form level) × (m < pool_size x)
+    IsSplit x = (level < 2 ^ 16) × IsBetweenSiblings form x level c × (item_count form x level c ≡ max_records form level) × (m < pool_size x)
         × (c ≡ m → ⊥) × ((q : ℕ) → right_in form (block_at x c) ≡ Some q → q ≡ m → ⊥)
 
-    pub split_ready : item_count form a level (child_of form a n k) ≡ item_most form level → IsSplit t
+    pub split_ready : item_count form a level (child_of form a n k) ≡ max_records form level → IsSplit t
     split_ready full =
         let placed = child.placed in
-        let filled : item_count form (with_taken a m) level c ≡ item_most form level =
+        let zero_padded : item_count form (with_taken a m) level c ≡ max_records form level =
         items_counted form (with_taken a m) level c ∙ sym (items_counted form a level c) ∙ ap (item_count form a level) kth.is ∙ full in
         subst IsSplit (sym taken) (
           kth_level form laws a level n k c kth,
           assumption placed,
-          filled,
+          zero_padded,
           range.1,
           not_spare c child.used.taken,
           λ q right. not_spare q (child.next_used q right).taken,
         )
 
-    module _ {b : Blocks} (dealt : Deals form t b level (c ∷ []) (c ∷ m ∷ []) (c ∷ m ∷ option_to_list (right_in form (block_at t c))) c m) where
-      s : Deals form (with_taken a m) b level (c ∷ []) (c ∷ m ∷ []) (c ∷ m ∷ option_to_list next) c m
-      s = subst (λ (x : Blocks). Deals form x b level (c ∷ []) (c ∷ m ∷ []) (c ∷ m ∷ option_to_list (right_in form (block_at x c))) c m) taken dealt
+    module _ {b : Blocks} (moved : MovesItems form t b level (c ∷ []) (c ∷ m ∷ []) (c ∷ m ∷ option_to_list (right_in form (block_at t c))) c m) where
+      s : MovesItems form (with_taken a m) b level (c ∷ []) (c ∷ m ∷ []) (c ∷ m ∷ option_to_list next) c m
+      s = subst (λ (x : Blocks). MovesItems form x b level (c ∷ []) (c ∷ m ∷ []) (c ∷ m ∷ option_to_list (right_in form (block_at x c))) c m) taken moved
 
       node_apart : m ≡ n → ⊥
       node_apart same = not_spare n used.taken (sym same)
@@ -227,10 +227,10 @@ module _ {X : Type 0} {form : Form X} (laws : IsForm form) {a : Blocks} {level n
             (all.2, all.3, changed_now split_moves w edits v m there),
           )
 
-  -- two neighbours
-  module _ {d : ℕ} (behind : IsKth form a level n (k + 1) d) where
+  -- two siblings
+  module _ {d : ℕ} (kth_next : IsChildAt form a level n (k + 1) d) where
     pair : ArePair form a level n c d
-    pair = kth_pair form laws a level n k c d kth behind
+    pair = kth_pair form laws a level n k c d kth kth_next
 
     abbrev after : Option ℕ
     after = right_in form (block_at a d)
@@ -242,10 +242,10 @@ module _ {X : Type 0} {form : Form X} (laws : IsForm form) {a : Blocks} {level n
     behind_both = drop-drop 1 (suc k) es ∙ ap (λ (i : ℕ). drop i es) (let e : suc k + 1 ≡ k + 2 = omega arith in e)
 
     within : suc k < length es
-    within = omega (arith, behind.within)
+    within = omega (arith, kth_next.within)
 
     -- what the dealing of the items asks for
-    pub pair_ready : (level < 2 ^ 16) × (IsPlaced form a level c × IsPlaced form a level d) × (c ≡ d → ⊥) × ((q : ℕ) → right_in form (block_at a d) ≡ Some q → q ≡ c → ⊥)
+    pub pair_ready : (level < 2 ^ 16) × (IsBetweenSiblings form a level c × IsBetweenSiblings form a level d) × (c ≡ d → ⊥) × ((q : ℕ) → right_in form (block_at a d) ≡ Some q → q ≡ c → ⊥)
     pair_ready = (
       kth_level form laws a level n k c kth,
       (pair.first.placed, pair.second.placed),
@@ -253,9 +253,9 @@ module _ {X : Type 0} {form : Form X} (laws : IsForm form) {a : Blocks} {level n
       pair.next_apart,
     )
 
-    module _ {b : Blocks} (s : Deals form a b level (c ∷ d ∷ []) (c ∷ d ∷ []) (c ∷ d ∷ []) d d) where
-      pub share_moves : Moves form a b level n k (k + 2) c 2 (d ∷ []) (d ∷ [])
-      share_moves = let free_same = λ (x : ℕ). ap (λ (bits : List ℕ). has_bit bits x) s.writes.free in record {
+    module _ {b : Blocks} (s : MovesItems form a b level (c ∷ d ∷ []) (c ∷ d ∷ []) (c ∷ d ∷ []) d d) where
+      pub rebalance_moves : Moves form a b level n k (k + 2) c 2 (d ∷ []) (d ∷ [])
+      rebalance_moves = let free_same = λ (x : ℕ). ap (λ (bits : List ℕ). has_bit bits x) s.writes.free in record {
         last = d;
         last' = d;
         same = s.writes.same;
@@ -270,7 +270,7 @@ module _ {X : Type 0} {form : Form X} (laws : IsForm form) {a : Blocks} {level n
         used = for_two (λ (x : ℕ). is_free b x ≡ false) c d (free_same c ∙ pair.first.used.taken) (free_same d ∙ pair.second.used.taken);
         freed = λ x some lie. absurd (omega (arith, some, lie));
         free = λ x was is. free_same x;
-        around = pair_around form laws a level n k c d kth behind;
+        around = pair_around form laws a level n k c d kth kth_next;
         kept = s.writes.others n (times_other n c (d ∷ []) pair.first.apart ∙ times_other n d [] pair.second.apart);
         apart = for_two (λ (x : ℕ). x ≡ n → ⊥) c d pair.first.apart pair.second.apart;
         below = for_two (λ (x : ℕ). x < pool_size a) c d pair.first.used.below pair.second.used.below;
@@ -279,30 +279,30 @@ module _ {X : Type 0} {form : Form X} (laws : IsForm form) {a : Blocks} {level n
         marks = record { stay = s.writes.marks.stay; few = omega (arith, s.writes.marks.few, unmarked_few a (c ∷ d ∷ [])) };
       }
 
-      pub share_made : {e z : Blocks} (w : Writes b e (n ∷ [])) → Edits form b e n (with_key k (key_held form (tree_held form b) level c)) → (v : Writes e z (n ∷ []))
+      pub rebalance_made : {e z : Blocks} (w : Writes b e (n ∷ [])) → Edits form b e n (with_key k (key_held form (tree_held form b) level c)) → (v : Writes e z (n ∷ []))
           → Edits form e z n (with_key (k + 1) (key_held form (tree_held form e) level d)) → (count : ℕ) → item_count form b level c ≡ count
           → (let x = child_of form a n k in let y = child_of form a n (k + 1) in Regroups form a z level n k (k + 2) (x ∷ y ∷ []) (x ∷ y ∷ []) × (item_count form z level x ≡ count)
           × MarksAtMost a z (unchanged a n + 2) × ((is_changed z n ≡ true) × (is_changed z x ≡ true) × (is_changed z y ≡ true)))
-      share_made {e = e} {z = z} w edits v again count counted =
+      rebalance_made {e = e} {z = z} w edits v again count counted =
           let there : 1 ≤ times d (c ∷ d ∷ []) = omega (arith, times_same d []) in
           let first : Entry = entry_for form b level c in
           let second : Entry = entry_for form b level d in
           let child_next : (get_or (set es k first) (k + 1) none).child ≡ d =
-          ap (λ (entry : Entry). entry.child) (get_or-set_other es k (k + 1) first none (omega arith)) ∙ child_at form a n (k + 1) d none behind.within (sym behind.is) in
-          let all = made share_moves w edits v (with_key (k + 1) (key_held form (tree_held form e) level d)) again
-          (keyed_is (set es k first) (k + 1) d (key_held form (tree_held form e) level d) none (omega (arith, behind.within, length-set es k first)) child_next
-          ∙ rw (next_place, later share_moves w edits d there) (set_then (λ (entries : List Entry) (i : ℕ). set entries i second) (λ z zs i. refl) es k first kth.within
+          ap (λ (entry : Entry). entry.child) (get_or-set_other es k (k + 1) first none (omega arith)) ∙ child_at form a n (k + 1) d none kth_next.within (sym kth_next.is) in
+          let all = made rebalance_moves w edits v (with_key (k + 1) (key_held form (tree_held form e) level d)) again
+          (keyed_is (set es k first) (k + 1) d (key_held form (tree_held form e) level d) none (omega (arith, kth_next.within, length-set es k first)) child_next
+          ∙ rw (next_place, later rebalance_moves w edits d there) (set_then (λ (entries : List Entry) (i : ℕ). set entries i second) (λ z zs i. refl) es k first kth.within
           ∙ ap (λ (rest : List Entry). take k es ++ first ∷ rest) (set_around (drop (suc k) es) 0 second (omega (arith, within, length-drop (suc k) es)) ∙ rw behind_both refl))) in
           let same : item_count form z level c ≡ count =
-          items_counted form z level c ∙ ap (λ (bytes : List ℕ). length (items_in form level bytes)) (one_beside b z n (over share_moves w edits v) c pair.first.apart)
+          items_counted form z level c ∙ ap (λ (bytes : List ℕ). length (items_in form level bytes)) (one_beside b z n (over rebalance_moves w edits v) c pair.first.apart)
           ∙ sym (items_counted form b level c) ∙ counted in (
-            subst (λ (y : ℕ). Regroups form a z level n k (k + 2) (child_of form a n k ∷ y ∷ []) (child_of form a n k ∷ y ∷ [])) behind.is all.0,
+            subst (λ (y : ℕ). Regroups form a z level n k (k + 2) (child_of form a n k ∷ y ∷ []) (child_of form a n k ∷ y ∷ [])) kth_next.is all.0,
             subst (λ (x : ℕ). item_count form z level x ≡ count) kth.is same,
             all.1,
-            (all.2, all.3, subst (λ (y : ℕ). is_changed z y ≡ true) behind.is (changed_now share_moves w edits v d there)),
+            (all.2, all.3, subst (λ (y : ℕ). is_changed z y ≡ true) kth_next.is (changed_now rebalance_moves w edits v d there)),
           )
 
-    module _ {b : Blocks} (s : Deals form a b level (c ∷ d ∷ []) (c ∷ []) (c ∷ option_to_list after) d c) where
+    module _ {b : Blocks} (s : MovesItems form a b level (c ∷ d ∷ []) (c ∷ []) (c ∷ option_to_list after) d c) where
       pub merge_below : d < pool_size b
       merge_below = omega (arith, pair.second.used.below, s.writes.same.pool)
 
@@ -328,7 +328,7 @@ module _ {X : Type 0} {form : Form X} (laws : IsForm form) {a : Blocks} {level n
         used = for_one (λ (x : ℕ). is_free (with_given b d) x ≡ false) c (merge_free c pair.apart ∙ pair.first.used.taken);
         freed = for_two (λ (x : ℕ). times x (c ∷ []) ≡ 0 → is_free (with_given b d) x ≡ true) c d (λ lie. absurd (omega (arith, lie, times_same c []))) (λ gone. bit_set b.free d merge_room);
         free = λ x was is. merge_free x (λ same. grind (arith, nat_tests, was, same));
-        around = pair_around form laws a level n k c d kth behind;
+        around = pair_around form laws a level n k c d kth kth_next;
         kept = s.writes.others n (times_other n c (option_to_list after) pair.first.apart ∙ not_next n after (λ q right. pair.second.next_apart q right));
         apart = for_one (λ (x : ℕ). x ≡ n → ⊥) c pair.first.apart;
         below = for_one (λ (x : ℕ). x < pool_size a) c pair.first.used.below;
@@ -344,7 +344,7 @@ module _ {X : Type 0} {form : Form X} (laws : IsForm form) {a : Blocks} {level n
     merge_made {o = o} {z = z} moves w edits v cuts =
         let all = made moves w edits v (λ (entries : List Entry). remove entries (k + 1)) cuts
         (rw next_place (set_then remove (λ z zs i. refl) es k (entry_for form o level c) kth.within ∙ rw (behind_both) refl)) in (
-          subst (λ (y : ℕ). Regroups form a z level n k (k + 2) (child_of form a n k ∷ y ∷ []) (child_of form a n k ∷ [])) behind.is all.0,
+          subst (λ (y : ℕ). Regroups form a z level n k (k + 2) (child_of form a n k ∷ y ∷ []) (child_of form a n k ∷ [])) kth_next.is all.0,
           all.1,
           (all.2, all.3),
         )

@@ -3,21 +3,21 @@ use Rattle.std.proofs.Common.{take, drop, ◌≡◌, ℕ, ◌+◌, ◌<◌, ◌�
 use Rattle.std.specs.List.{last_or}
 use Rattle.xr_kinds.specs.Form.{Form, IsForm}
 use Rattle.xr_pool.specs.Overlay.{Blocks, block_at, is_free, pool_size}
-use Rattle.xr_block.specs.Rows.{AreLinked, AreRowsOf, first_of, half, named_below}
+use Rattle.xr_block.specs.Rows.{AreLinked, AreRowsOf, first_of, min_records, named_below}
 use Rattle.xr_block.specs.Times.{times}
 use Rattle.xr_block.specs.Tree.{IsUsed, blocks_of, records_of, site_of, tree_held}
 use Rattle.xr_block.specs.TreeBlock.{Place, Site}
 use Rattle.xr_change.proofs.SameItemLemmas.{items_append, items_same, records_regrouped, rest_regrouped, rows_regrouped, times_rest_append, times_rows, whole_same}
-use Rattle.xr_change.proofs.NodeContextLemmas.{counted, first_behind, first_within, is_some_of, last_names, linked_after, linked_joined, linked_stays, row_parts}
-use Rattle.xr_change.proofs.SiblingLemmas.{block_of, relinked_holds}
-use Rattle.xr_change.proofs.NodeChangeLemmas.{whole_relinked}
+use Rattle.xr_change.proofs.NodeContextLemmas.{counted, first_after, first_within, is_some_of, last_names, linked_after, linked_joined, linked_stays, row_parts}
+use Rattle.xr_change.proofs.SiblingLemmas.{block_of, with_left_holds}
+use Rattle.xr_change.proofs.NodeChangeLemmas.{whole_with_left}
 use Rattle.xr_change.proofs.RowBlockLemmas.{holds_same, times_append, times_row}
 use Rattle.xr_change.specs.Alters.{AreKnown, AreRowsIn, HoldsSame, IsSamePool, IsWholeAt, Takes}
-use Rattle.xr_change.specs.Regroups.{HasKey, HaveSameItems, IsRelinked, StayLinked, blocks_below}
+use Rattle.xr_change.specs.Regroups.{GivesKey, HaveSameItems, HasNewLeft, StayLinked, blocks_below}
 use Rattle.xr_change.specs.Writes.{MarksAtMost, is_changed}
 use Rattle.xr_block.specs.Checks.{right_in}
 
--- c and the blocks behind it are taken for c and others with the same items, and the node n that names them as its k-th and the next is as it was
+-- c and the blocks after it are taken for c and others with the same items, and the node n that names them as its k-th and the next is as it was
 pub record Moves {X : Type 0} (form : Form X) (before after : Blocks) (level n k t c more : ℕ) (olds news : List ℕ) : Type 0 where
   pub last : ℕ
   pub last' : ℕ
@@ -26,8 +26,8 @@ pub record Moves {X : Type 0} (form : Form X) (before after : Blocks) (level n k
   pub last_now : last_or (Some c) news ≡ Some last'
   pub linked : StayLinked form before after level (c ∷ olds) (c ∷ news)
   pub items : HaveSameItems form before after level (c ∷ olds) (c ∷ news)
-  -- the block behind them in their level is linked to the last of them, and nothing else is touched
-  pub next : (q : ℕ) → right_in form (block_at before last) ≡ Some q → IsRelinked form before after q last last'
+  -- the block after them in their level is linked to the last of them, and nothing else is touched
+  pub next : (q : ℕ) → right_in form (block_at before last) ≡ Some q → HasNewLeft form before after q last last'
   pub others : (m : ℕ) → times m (c ∷ olds) ≡ 0 → times m (c ∷ news) ≡ 0 → (right_in form (block_at before last) ≡ Some m → ⊥) → block_at after m ≡ block_at before m
   -- blocks that come in were free, and those that leave are
   pub once : (m : ℕ) → times m (c ∷ news) ≤ 1
@@ -40,7 +40,7 @@ pub record Moves {X : Type 0} (form : Form X) (before after : Blocks) (level n k
   -- what is known of those that n is to name
   pub apart : (m : ℕ) → 1 ≤ times m (c ∷ news) → m ≡ n → ⊥
   pub below : (m : ℕ) → 1 ≤ times m (c ∷ news) → m < pool_size before
-  pub keyed : (m : ℕ) → 1 ≤ times m (c ∷ news) → HasKey form level (block_at after m)
+  pub keyed : (m : ℕ) → 1 ≤ times m (c ∷ news) → GivesKey form level (block_at after m)
   pub changed : (m : ℕ) → 1 ≤ times m (c ∷ news) → is_changed after m ≡ true
   pub marks : MarksAtMost before after more
 
@@ -56,7 +56,7 @@ module _ {X : Type 0} {form : Form X} (laws : IsForm form) {before after : Block
   not_new : (m : ℕ) → is_free before m ≡ false → times m old ≡ 0 → times m new ≡ 0
   not_new m used without = grind (arith, r.taken m, used, without)
 
-  module _ (left right : List ℕ) (rows : AreRowsIn form before (half form level) level (left ++ (old ++ right))) where
+  module _ (left right : List ℕ) (rows : AreRowsIn form before (min_records form level) level (left ++ (old ++ right))) where
     abbrev row : List ℕ
     row = left ++ (old ++ right)
 
@@ -73,11 +73,11 @@ module _ {X : Type 0} {form : Form X} (laws : IsForm form) {before after : Block
     next_holds : (q : ℕ) → right_in form (block_at before r.last) ≡ Some q → HoldsSame form before after q
     next_holds q is =
         let next : first_of right None ≡ Some q = sym right_of_old ∙ is in
-        let found = first_behind form before level left old right rows c olds refl r.last r.last_is q next in
+        let found = first_after form before level left old right rows c olds refl r.last r.last_is q next in
         let place : Place = record { number = q; level = level; left = Some r.last; right = found.0 } in
         let used = rows.owned q (omega (arith, first_within right q next, here q)) in
-        let block = block_of form laws before known (half form level) level place used.below found.1 in
-        relinked_holds form laws before known after place (record place { left = Some r.last' }) block (r.next q is place block.count block.items refl refl block.block)
+        let block = block_of form laws before known (min_records form level) level place used.below found.1 in
+        with_left_holds form laws before known after place (record place { left = Some r.last' }) block (r.next q is place block.count block.items refl refl block.block)
 
     -- and so do all blocks beside those that were taken, which keep their bytes but for that one
     others_hold : (m : ℕ) → is_free before m ≡ false → times m old ≡ 0 → HoldsSame form before after m
@@ -107,24 +107,24 @@ module _ {X : Type 0} {form : Form X} (laws : IsForm form) {before after : Block
         items_append form before after level left (old ++ right) left (new ++ right) (items_same form before after level left (λ m some. hold_beside m (omega (arith, some))))
         (items_append form before after level old right new right r.items (items_same form before after level right (λ m some. hold_beside m (omega (arith, some)))))
 
-    linked_now : AreLinked (IsWholeAt form (site_of before) (tree_held form after) level (half form level)) (block_at after) level None row_now None
+    linked_now : AreLinked (IsWholeAt form (site_of before) (tree_held form after) level (min_records form level)) (block_at after) level None row_now None
     linked_now =
-        let P : Place → List ℕ → Type 0 = IsWholeAt form (site_of before) (tree_held form before) level (half form level) in
-        let Q : Place → List ℕ → Type 0 = IsWholeAt form (site_of before) (tree_held form after) level (half form level) in
+        let P : Place → List ℕ → Type 0 = IsWholeAt form (site_of before) (tree_held form before) level (min_records form level) in
+        let Q : Place → List ℕ → Type 0 = IsWholeAt form (site_of before) (tree_held form after) level (min_records form level) in
         let o : Option ℕ = last_or None left in
         let parts = row_parts form before level left old right rows in
         let behind_it : AreLinked Q (block_at after) level (Some r.last') right None =
         linked_after P Q (block_at before) (block_at after) level (Some r.last) (Some r.last') right None
         (λ m. omega (arith, here m, rows.once m))
         (λ q is place at low near whole.
-        whole_relinked form before after q r.last r.last' (half form level) level place at near (r.next q (right_of_old ∙ is)) (next_holds q (right_of_old ∙ is)) whole)
+        whole_with_left form before after q r.last r.last' (min_records form level) level place at near (r.next q (right_of_old ∙ is)) (next_holds q (right_of_old ∙ is)) whole)
         (λ place low some beside whole.
         let out = apart place.number (omega (arith, some)) in
-        whole_same form before after (site_of before) (half form level) level place (untouched place.number out.0 out.1 beside) whole)
+        whole_same form before after (site_of before) (min_records form level) level place (untouched place.number out.0 out.1 beside) whole)
         (subst (λ (l : Option ℕ). AreLinked P (block_at before) level l right None) r.last_is parts.2) in
         linked_joined Q (block_at after) level None left (new ++ right) None
         (linked_stays P Q (block_at before) (block_at after) level None left (first_of (new ++ right) None)
-        (λ place low some whole. whole_same form before after (site_of before) (half form level) level place (stays place.number (omega (arith, some))) whole) parts.0)
+        (λ place low some whole. whole_same form before after (site_of before) (min_records form level) level place (stays place.number (omega (arith, some))) whole) parts.0)
         (linked_joined Q (block_at after) level o new right None (r.linked o (first_of right None) parts.1)
         (subst (λ (l : Option ℕ). AreLinked Q (block_at after) level l right None) (sym r.last_now) behind_it))
 
@@ -152,10 +152,10 @@ module _ {X : Type 0} {form : Form X} (laws : IsForm form) {before after : Block
           taken = grind (arith, some, had, counted_now m, rows.once m, r.used m, r.free m, λ (there : 1 ≤ times m (blocks_of form before level row)). (rows.owned m there).taken);
         }
 
-    rows_after : AreRowsIn form after (half form level) level row_now
+    rows_after : AreRowsIn form after (min_records form level) level row_now
     rows_after = record {
-      rows = subst (λ (site : Site). AreRowsOf form site (block_at after) (tree_held form after) (half form level) level row_now) (sym r.same.site)
-          (rows_regrouped form before after row row_now (site_of before) (half form level) level items_now below_stays linked_now rows.rows);
+      rows = subst (λ (site : Site). AreRowsOf form site (block_at after) (tree_held form after) (min_records form level) level row_now) (sym r.same.site)
+          (rows_regrouped form before after row row_now (site_of before) (min_records form level) level items_now below_stays linked_now rows.rows);
       once = once_now;
       owned = owned_now;
     }
@@ -167,7 +167,7 @@ module _ {X : Type 0} {form : Form X} (laws : IsForm form) {before after : Block
     pub moves_records : records_of form after level new ≡ records_of form before level old
     moves_records = records_regrouped form before after old new level r.items moves_below
 
-  pub moves_takes : (left right : List ℕ) → AreRowsIn form before (half form level) level (left ++ (old ++ right)) → Takes form before after level old new
+  pub moves_takes : (left right : List ℕ) → AreRowsIn form before (min_records form level) level (left ++ (old ++ right)) → Takes form before after level old new
   moves_takes left right rows =
       let counts : (m : ℕ) → times m (blocks_of form after level new) + times m old ≡ times m (blocks_of form before level old) + times m new =
       λ m. omega (

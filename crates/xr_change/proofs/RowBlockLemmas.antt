@@ -7,12 +7,12 @@ use Rattle.xr_block.specs.TimesLaws.{times_of, times_other, times_same}
 use Rattle.xr_kinds.specs.Form.{Form}
 use Rattle.xr_block.specs.FrameLaws.{are_rows_same, flat_map_same, linked_same}
 use Rattle.xr_pool.specs.Overlay.{Blocks, is_free, block_at, pool_size}
-use Rattle.xr_block.specs.Rows.{half, AreNamed, AreRowsOf, IsWhole, IsWholeLeaf, IsWholeNode, key_held, key_of_entries, key_of_records, leaves_from, named_below, rows_from}
+use Rattle.xr_block.specs.Rows.{min_records, AreNamed, AreRowsOf, IsWhole, IsWholeLeaf, IsWholeNode, key_held, key_of_entries, key_of_records, leaves_from, named_below, rows_from}
 use Rattle.xr_block.specs.Times.{times}
 use Rattle.xr_block.specs.Tree.{IsUsed, blocks_of, records_of, site_of, tree_held}
 use Rattle.xr_block.specs.TreeBlock.{Entry, Place, entries_in, records_in}
 use Rattle.xr_change.specs.Alters.{Alters, AreRowsIn, HoldsSame, IsSamePool, Takes}
-use Rattle.xr_change.specs.Ways.{item_count}
+use Rattle.xr_change.specs.Paths.{item_count}
 
 pub same_or_other : {P : Type 0} (m n : ℕ) → (m ≡ n → P) → ((m ≡ n → ⊥) → P) → P
 same_or_other m n same other = ⊎_elim same other (cases_eq m n)
@@ -81,21 +81,21 @@ module _ {X : Type 0} (form : Form X) (b : Blocks) where
   records_below level row = refl
 
   -- the blocks and the records under a node, by some of its children
-  module _ (level n : ℕ) (front mid behind : List ℕ) (named : named_below (tree_held form b) n ≡ front ++ (mid ++ behind)) where
-    children_alone : children form b (n ∷ []) ≡ front ++ (mid ++ behind)
+  module _ (level n : ℕ) (front mid after : List ℕ) (named : named_below (tree_held form b) n ≡ front ++ (mid ++ after)) where
+    children_alone : children form b (n ∷ []) ≡ front ++ (mid ++ after)
     children_alone = append-nil (named_below (tree_held form b) n) ∙ named
 
     pub times_under : (m : ℕ)
         → times m (blocks_of form b (suc level) (n ∷ []))
-        ≡ times m (n ∷ []) + (times m (blocks_of form b level front) + (times m (blocks_of form b level mid) + times m (blocks_of form b level behind)))
+        ≡ times m (n ∷ []) + (times m (blocks_of form b level front) + (times m (blocks_of form b level mid) + times m (blocks_of form b level after)))
     times_under m =
-        omega (arith, times_below m level (n ∷ []), ap (λ (row : List ℕ). times m (blocks_of form b level row)) children_alone, times_parts m level front mid behind)
+        omega (arith, times_below m level (n ∷ []), ap (λ (row : List ℕ). times m (blocks_of form b level row)) children_alone, times_parts m level front mid after)
 
-    pub records_under_node : records_of form b (suc level) (n ∷ []) ≡ records_of form b level front ++ (records_of form b level mid ++ records_of form b level behind)
-    records_under_node = records_below level (n ∷ []) ∙ rw (children_alone, records_append level front (mid ++ behind), records_append level mid behind) refl
+    pub records_under_node : records_of form b (suc level) (n ∷ []) ≡ records_of form b level front ++ (records_of form b level mid ++ records_of form b level after)
+    records_under_node = records_below level (n ∷ []) ∙ rw (children_alone, records_append level front (mid ++ after), records_append level mid after) refl
 
   -- the rows below a row
-  pub below : (least level : ℕ) (row : List ℕ) → AreRowsIn form b least (suc level) row → AreRowsIn form b (half form level) level (children form b row)
+  pub below : (least level : ℕ) (row : List ℕ) → AreRowsIn form b least (suc level) row → AreRowsIn form b (min_records form level) level (children form b row)
   unfolding AreRowsOf
   below least level row known = record {
     rows = known.rows.2;
@@ -218,8 +218,8 @@ module _ {X : Type 0} (form : Form X) (a b : Blocks) (level : ℕ) (old new : Li
       ≡ times m (blocks_of form a level pre) + (times m (blocks_of form b level new) + times m (blocks_of form a level post))
   times_after m =
       let before = ap (times m) (blocks_same form a b level pre (λ k some. (held_beside k (omega (arith, some))).0)) in
-      let behind = ap (times m) (blocks_same form a b level post (λ k some. (held_beside k (omega (arith, some))).0)) in
-      omega (arith, times_parts form b m level pre new post, before, behind)
+      let after = ap (times m) (blocks_same form a b level post (λ k some. (held_beside k (omega (arith, some))).0)) in
+      omega (arith, times_parts form b m level pre new post, before, after)
 
   -- what stands in no row from these blocks on down doesn't come in
   pub still_out : (m : ℕ) → is_free a m ≡ false → times m (blocks_of form a level (pre ++ (old ++ post))) ≡ 0
@@ -257,12 +257,12 @@ module _ {X : Type 0} (form : Form X) where
         (λ between. two.freed m (omega (arith, between)) out);
   }
 
-  pub alters_takes : (a b : Blocks) (level n : ℕ) → Alters form a b (half form level) level n → Takes form a b level (n ∷ []) (n ∷ [])
+  pub alters_takes : (a b : Blocks) (level n : ℕ) → Alters form a b (min_records form level) level n → Takes form a b level (n ∷ []) (n ∷ [])
   alters_takes a b level n one = record {
     same = one.same;
-    rows = λ pre post. one.rows (half form level) pre post (omega arith);
+    rows = λ pre post. one.rows (min_records form level) pre post (omega arith);
     held = one.held;
-    bytes = λ pre post. one.bytes (half form level) pre post (omega arith);
+    bytes = λ pre post. one.bytes (min_records form level) pre post (omega arith);
     freed = one.freed;
     spare = one.spare;
   }

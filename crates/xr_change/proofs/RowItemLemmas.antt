@@ -5,7 +5,7 @@ use Rattle.std.specs.List.{flat_map}
 use Rattle.xr_block.specs.TimesLaws.{found_in}
 use Rattle.xr_kinds.specs.Form.{Form, IsForm}
 use Rattle.xr_pool.specs.Overlay.{Blocks, block_at, pool_size, IsBlock}
-use Rattle.xr_block.specs.Rows.{Held, IsWholeLeaf, half, held_in, key_held, key_of_entries, key_of_records}
+use Rattle.xr_block.specs.Rows.{Held, IsWholeLeaf, min_records, held_in, key_held, key_of_entries, key_of_records}
 use Rattle.xr_block.specs.Times.{times}
 use Rattle.xr_block.specs.Tree.{site_of, tree_held}
 use Rattle.xr_block.specs.TreeBlock.{Entry, Place, Site, entries_in, leaf_bytes, node_bytes, records_in, count_in}
@@ -14,8 +14,8 @@ use Rattle.xr_change.proofs.SiblingLemmas.{links_read, whole_moved}
 use Rattle.xr_change.proofs.NodeContextLemmas.{linked_stays}
 use Rattle.xr_change.proofs.RowBlockLemmas.{times_row, holds_same, key_same}
 use Rattle.xr_change.specs.Alters.{AreKnown, AreRowsIn, IsWholeAt}
-use Rattle.xr_change.specs.Regroups.{place_of, HasKey, HaveSameItems, IsBlockOf, Item, entry_for, items_in}
-use Rattle.xr_change.specs.Ways.{child_of, item_count, item_most}
+use Rattle.xr_change.specs.Regroups.{place_named, GivesKey, HaveSameItems, IsBlockOf, Item, entry_for, items_in}
+use Rattle.xr_change.specs.Paths.{child_of, item_count, max_records}
 use Rattle.xr_block.specs.EditLaws.{holds_records, leaf_count, leaf_of_whole, leaf_records, node_count, node_entries, node_of_whole}
 use Rattle.xr_block.specs.Edits.{IsLeafOf, IsNodeOf}
 use Rattle.xr_block.specs.UnderLaws.{linked_at}
@@ -23,7 +23,7 @@ use Rattle.xr_block.specs.Checks.{HoldsRecords}
 
 -- each block of a row is whole at the place that it names
 pub row_whole : {X : Type 0} (form : Form X) (laws : IsForm form) (b : Blocks) (known : AreKnown b) (least level : ℕ) (row : List ℕ) → AreRowsIn form b least level row
-    → (m : ℕ) → 1 ≤ times m row → IsWholeAt form (site_of b) (tree_held form b) level least (place_of form b level m) (block_at b m)
+    → (m : ℕ) → 1 ≤ times m row → IsWholeAt form (site_of b) (tree_held form b) level least (place_named form b level m) (block_at b m)
 row_whole form laws b known least level row rows m some =
     let P : Place → List ℕ → Type 0 = IsWholeAt form (site_of b) (tree_held form b) level least in
     let Q : Place → List ℕ → Type 0 = λ place bytes. (place.level ≡ level) × P place bytes in
@@ -34,8 +34,8 @@ row_whole form laws b known least level row rows m some =
     let same : place.number ≡ m = found.1 in
     let used = rows.owned m (omega (arith, some, times_row form b m level row)) in
     let links = links_read form laws b known least level place (subst (λ (k : ℕ). k < pool_size b) (sym same) used.below) found.2.1 in
-    subst (λ (k : ℕ). IsWholeAt form (site_of b) (tree_held form b) level least (place_of form b level k) (block_at b k)) same
-    (whole_moved form (site_of b) (tree_held form b) least level place (place_of form b level place.number) (block_at b place.number) refl (sym found.2.0) links.0 links.1 found.2.1)
+    subst (λ (k : ℕ). IsWholeAt form (site_of b) (tree_held form b) level least (place_named form b level k) (block_at b k)) same
+    (whole_moved form (site_of b) (tree_held form b) least level place (place_named form b level place.number) (block_at b place.number) refl (sym found.2.0) links.0 links.1 found.2.1)
 
 -- a whole block as a leaf, with the records that it holds now
 pub whole_leaf : {X : Type 0} (form : Form X) (site : Site) (held : Held X) (least : ℕ) (place : Place) (bytes : List ℕ)
@@ -62,10 +62,10 @@ Gathers {X = X} form level site first second from to place out =
     → IsBlockOf form level site place (take (to - from) (drop from (xs ++ ys))) out
 
 module _ {X : Type 0} (form : Form X) where
-  pub half_is : (level : ℕ) → half form level ≡ item_most form level / 2
-  unfolding half
-  half_is zero = refl
-  half_is (suc level) = refl
+  pub min_records_is : (level : ℕ) → min_records form level ≡ max_records form level / 2
+  unfolding min_records
+  min_records_is zero = refl
+  min_records_is (suc level) = refl
 
   -- at the level of a leaf, and at that of a node
   pub gathers_by : (level : ℕ) (site : Site) (first second out : List ℕ) (from to : ℕ) (place : Place)
@@ -115,7 +115,7 @@ module _ {X : Type 0} (form : Form X) where
 module _ {X : Type 0} (form : Form X) (laws : IsForm form) where
   -- what such a block holds, how many items it has, and what is tested of a leaf
   pub block_holds : (level : ℕ) (site : Site) (place : Place) (items : List (Item X level)) (bytes : List ℕ) → IsBlockOf form level site place items bytes
-      → (items_in form level bytes ≡ items) × (count_in bytes ≡ length items) × (length items ≤ item_most form level) × (level ≡ 0 → HoldsRecords form bytes)
+      → (items_in form level bytes ≡ items) × (count_in bytes ≡ length items) × (length items ≤ max_records form level) × (level ≡ 0 → HoldsRecords form bytes)
   unfolding IsBlockOf items_in
   block_holds zero site place items bytes is =
       (leaf_records form laws site place bytes items is, leaf_count form laws site place bytes items is, is.few, λ low. holds_records form laws site place bytes items is)
@@ -123,7 +123,7 @@ module _ {X : Type 0} (form : Form X) (laws : IsForm form) where
       (node_entries form laws site place bytes items is, node_count form laws site place bytes items is, is.few, λ low. absurd (omega (arith, low)))
 
   pub block_key : (level : ℕ) (site : Site) (place : Place) (items : List (Item X level)) (bytes : List ℕ) → IsBlockOf form level site place items bytes
-      → 1 ≤ length items → HasKey form level bytes
+      → 1 ≤ length items → GivesKey form level bytes
   block_key level site place items bytes is some =
       let holds = block_holds level site place items bytes is in
       record { tested = holds.3; some = omega (arith, some, holds.1); few = omega (arith, holds.1, holds.2) }
@@ -138,7 +138,7 @@ module _ {X : Type 0} (form : Form X) (laws : IsForm form) where
       node_of_whole form laws (site_of b) place (block_at b place.number) least identified block.long block.are_bytes whole
 
   pub whole_now : (a z : Blocks) (level : ℕ) (place : Place) (items : List (Item X level)) → IsBlockOf form level (site_of a) place items (block_at z place.number)
-      → half form level ≤ length items → IsWholeAt form (site_of a) (tree_held form z) level (half form level) place (block_at z place.number)
+      → min_records form level ≤ length items → IsWholeAt form (site_of a) (tree_held form z) level (min_records form level) place (block_at z place.number)
   unfolding IsBlockOf IsWholeAt
   whole_now a z zero place items is many =
       let holds = leaf_records form laws (site_of a) place (block_at z place.number) items is in

@@ -6,7 +6,7 @@ use Rattle.std.proofs.lemmas.List.Elements.{All-append}
 use Rattle.xr_kinds.specs.Form.{Form}
 use Rattle.xr_block.specs.FrameLaws.{are_rows_same, flat_map_same, leaf_same, node_same}
 use Rattle.xr_pool.specs.Overlay.{Blocks, block_at}
-use Rattle.xr_block.specs.Rows.{AreLinked, AreNamed, AreRowsOf, Held, half, key_held, leaves_from, named_below}
+use Rattle.xr_block.specs.Rows.{AreLinked, AreNamed, AreRowsOf, Held, min_records, key_held, leaves_from, named_below}
 use Rattle.xr_block.specs.Times.{times}
 use Rattle.xr_block.specs.Tree.{blocks_of, records_of, tree_held}
 use Rattle.xr_block.specs.TreeBlock.{Entry, Place, Site}
@@ -30,28 +30,28 @@ each_key key (e ∷ es) all =
     rw (all 0 e (omega arith), each_key key es (λ k d within. all (suc k) d (omega arith))) refl
 
 module _ {X : Type 0} (form : Form X) (held : Held X) (level : ℕ) where
-  abbrev pub HasKey : Entry → Type 0
-  HasKey e = e.key ≡ key_held form held level e.child
+  abbrev pub GivesKey : Entry → Type 0
+  GivesKey e = e.key ≡ key_held form held level e.child
 
-  pub named_entries : (row : List ℕ) → AreNamed form held level row → All HasKey (flat_map held.entries row)
+  pub named_entries : (row : List ℕ) → AreNamed form held level row → All GivesKey (flat_map held.entries row)
   unfolding AreNamed
   named_entries [] named = λ k d within. absurd (omega (arith, within))
   named_entries (n ∷ ns) named =
-      All-append HasKey (held.entries n) (flat_map held.entries ns) (same_each (λ (e : Entry). e.key) (λ (e : Entry). e.child) (key_held form held level) (held.entries n) named.0)
+      All-append GivesKey (held.entries n) (flat_map held.entries ns) (same_each (λ (e : Entry). e.key) (λ (e : Entry). e.child) (key_held form held level) (held.entries n) named.0)
       (named_entries ns named.1)
 
-  pub entries_named : (row : List ℕ) → All HasKey (flat_map held.entries row) → AreNamed form held level row
+  pub entries_named : (row : List ℕ) → All GivesKey (flat_map held.entries row) → AreNamed form held level row
   unfolding AreNamed
   entries_named [] all = tt
   entries_named (n ∷ ns) all = (
-    each_key (key_held form held level) (held.entries n) (all_left HasKey (held.entries n) (flat_map held.entries ns) all),
-    entries_named ns (all_right HasKey (held.entries n) (flat_map held.entries ns) all),
+    each_key (key_held form held level) (held.entries n) (all_left GivesKey (held.entries n) (flat_map held.entries ns) all),
+    entries_named ns (all_right GivesKey (held.entries n) (flat_map held.entries ns) all),
   )
 
 -- entries have the keys of their children still where these have the same
 pub keys_stay : {X : Type 0} (form : Form X) (held held' : Held X) (level : ℕ) (es : List Entry)
     → ((m : ℕ) → 1 ≤ times m (map (λ (e : Entry). e.child) es) → key_held form held' level m ≡ key_held form held level m)
-    → All (HasKey form held level) es → All (HasKey form held' level) es
+    → All (GivesKey form held level) es → All (GivesKey form held' level) es
 keys_stay form held held' level es same all k d within =
     let e = get_or es k d in
     let child : Entry → ℕ = λ entry. entry.child in
@@ -130,12 +130,12 @@ module _ {X : Type 0} (form : Form X) (before after : Blocks) where
     rows_regrouped site least (suc level) items same linked rows = (
       linked,
       -- the nodes of both name the same children with the same keys
-      entries_named form (tree_held form after) level row' (subst (All (HasKey form (tree_held form after) level)) (sym items)
+      entries_named form (tree_held form after) level row' (subst (All (GivesKey form (tree_held form after) level)) (sym items)
           (keys_stay form (tree_held form before) (tree_held form after) level (flat_map (tree_held form before).entries row)
           (λ m some. key_same form before after level m (holds_same form before after m
           (same m (omega (arith, some, ap (times m) (named_flat (tree_held form before) row), times_row form before m level (children form before row))))))
           (named_entries form (tree_held form before) level row rows.1))),
-      subst (AreRowsOf form site (block_at after) (tree_held form after) (half form level) level) (sym (below_same level items))
-          (are_rows_same form (block_at before) (block_at after) site (half form level) level (children form before row)
+      subst (AreRowsOf form site (block_at after) (tree_held form after) (min_records form level) level) (sym (below_same level items))
+          (are_rows_same form (block_at before) (block_at after) site (min_records form level) level (children form before row)
           (λ m within. same m (times_of (blocks_of form before level (children form before row)) m within)) rows.2),
     )

@@ -66,7 +66,7 @@ module _ {X : Type 0} (order : X → X → Ordering) (total : IsTotalOrder order
       let within : k < length xs = omega (arith, there, same) in
       (within, λ d. ap (λ (x : X). is_eq (order x r)) (get_or_default xs k d r within ∙ ap (λ (i : ℕ). get_or xs i r) (sym same) ∙ is) ∙ ap is_eq (tied_itself total r))
 
--- a record that isn't the first of a list stands behind it
+-- a record that isn't the first of a list stands after it
 later : {X : Type 0} (order : X → X → Ordering) (total : IsTotalOrder order) (r x : X) (xs : List X) → Contains (x ∷ xs) r → is_eq (order x r) ≡ false → Contains xs r
 later order total r x xs (zero, within, is) other = let equal : is_eq Equal ≡ true = refl in grind (arith, is, other, equal, tied_itself total r)
 later order total r x xs (suc k, within, is) other = (k, omega (arith, within), is)
@@ -106,25 +106,25 @@ module _ {X : Type 0} (order : X → X → Ordering) (total : IsTotalOrder order
       chosen_front (is_lt (order x r)) (x ∷ inserted order r (xs ++ zs)) (r ∷ x ∷ (xs ++ zs)) (x ∷ inserted order r xs) (r ∷ x ∷ xs) zs
       (λ is. ap (λ (rest : List X). x ∷ rest) (inserted_front xs zs above)) (λ is. refl)
 
-  pub inserted_between : (front xs behind : List X) → All (λ (y : X). order y r ≡ Less) front → All (λ (y : X). order r y ≡ Less) behind
-      → inserted order r (front ++ (xs ++ behind)) ≡ front ++ (inserted order r xs ++ behind)
+  pub inserted_between : (front xs after : List X) → All (λ (y : X). order y r ≡ Less) front → All (λ (y : X). order r y ≡ Less) after
+      → inserted order r (front ++ (xs ++ after)) ≡ front ++ (inserted order r xs ++ after)
   unfolding inserted
-  inserted_between front xs behind below above =
-      past_front (inserted order r) (λ x ys less. rw less refl) front (xs ++ behind) below ∙ ap (λ (rest : List X). front ++ rest) (inserted_front xs behind above)
+  inserted_between front xs after below above =
+      past_front (inserted order r) (λ x ys less. rw less refl) front (xs ++ after) below ∙ ap (λ (rest : List X). front ++ rest) (inserted_front xs after above)
 
-  pub removed_between : (front xs behind : List X) → All (λ (y : X). order y r ≡ Less) front → Contains xs r
-      → removed order r (front ++ (xs ++ behind)) ≡ front ++ (removed order r xs ++ behind)
+  pub removed_between : (front xs after : List X) → All (λ (y : X). order y r ≡ Less) front → Contains xs r
+      → removed order r (front ++ (xs ++ after)) ≡ front ++ (removed order r xs ++ after)
   unfolding removed
-  removed_between front xs behind below found =
-      past_front (removed order r) (λ x ys less. rw less refl) front (xs ++ behind) below
-      ∙ ap (λ (rest : List X). front ++ rest) (edited_front (removed order r) (λ ys. ys) (λ x ys. refl) (λ ys zs. refl) xs behind found)
+  removed_between front xs after below found =
+      past_front (removed order r) (λ x ys less. rw less refl) front (xs ++ after) below
+      ∙ ap (λ (rest : List X). front ++ rest) (edited_front (removed order r) (λ ys. ys) (λ x ys. refl) (λ ys zs. refl) xs after found)
 
-  pub replaced_between : (new : X) (front xs behind : List X) → All (λ (y : X). order y r ≡ Less) front → Contains xs r
-      → replaced order r new (front ++ (xs ++ behind)) ≡ front ++ (replaced order r new xs ++ behind)
+  pub replaced_between : (new : X) (front xs after : List X) → All (λ (y : X). order y r ≡ Less) front → Contains xs r
+      → replaced order r new (front ++ (xs ++ after)) ≡ front ++ (replaced order r new xs ++ after)
   unfolding replaced
-  replaced_between new front xs behind below found =
-      past_front (replaced order r new) (λ x ys less. rw less refl) front (xs ++ behind) below
-      ∙ ap (λ (rest : List X). front ++ rest) (edited_front (replaced order r new) (λ ys. new ∷ ys) (λ x ys. refl) (λ ys zs. refl) xs behind found)
+  replaced_between new front xs after below found =
+      past_front (replaced order r new) (λ x ys less. rw less refl) front (xs ++ after) below
+      ∙ ap (λ (rest : List X). front ++ rest) (edited_front (replaced order r new) (λ ys. new ∷ ys) (λ x ys. refl) (λ ys zs. refl) xs after found)
 
 -- what stands in front of a record of a list that ascends is below it
 pub front_below : {X : Type 0} (order : X → X → Ordering) (front ys : List X) (r : X) → AllPairs (λ (x y : X). order x y ≡ Less) (front ++ ys) → Contains ys r

@@ -1,4 +1,4 @@
--- What a whole block of an overlay says of its neighbours, and what stays where they are others.
+-- What a whole block of an overlay says of its siblings, and what stays where they are others.
 use Rattle.std.proofs.Common.{◌≡◌, ℕ, zero, suc, ◌+◌, ◌*◌, ◌^◌, ◌<◌, ◌≤◌, Bool, true, false, if◌then◌else◌, Option, Some, None, List, length, drop, refl, sym, ap, ◌∙◌, arith}
 use Rattle.std.proofs.lemmas.List.{length-drop}
 use Rattle.std.proofs.Math.Nat.{mul-le-mul_right}
@@ -10,9 +10,9 @@ use Rattle.xr_kinds.specs.Form.{Form, IsForm, header_size, pointer_size}
 use Rattle.xr_pool.specs.Overlay.{Blocks, block_at, pool_size}
 use Rattle.xr_block.specs.Rows.{Held}
 use Rattle.xr_block.specs.Tree.{site_of, tree_held}
-use Rattle.xr_block.specs.TreeBlock.{Place, Site, count_in, entries_in, header, leaf_bytes, neighbour, node_bytes, node_items, records_in, tree_block}
+use Rattle.xr_block.specs.TreeBlock.{Place, Site, count_in, entries_in, header, leaf_bytes, sibling, node_bytes, node_items, records_in, tree_block}
 use Rattle.xr_change.specs.Alters.{AreKnown, HoldsSame, IsWholeAt}
-use Rattle.xr_block.specs.CheckLaws.{IsRead, Names, block_read, neighbour_again}
+use Rattle.xr_block.specs.CheckLaws.{IsRead, Names, block_read, sibling_again}
 use Rattle.xr_block.specs.ItemCheckLaws.{node_read}
 use Rattle.xr_block.specs.Checks.{left_in, right_in}
 use Rattle.xr_block.specs.NodeEntryLaws.{length-entries}
@@ -58,33 +58,33 @@ module _ {X : Type 0} (form : Form X) (laws : IsForm form) (b : Blocks) (known :
       → IsRead form (site_of b) place at.count at.items (block_at b place.number)
   read_of place at = block_read form (site_of b) place at.count at.items (block_at b place.number) known.identified at.room at.block
 
-  -- it names its right neighbour
+  -- it names its right sibling
   pub right_read : (least level : ℕ) (place : Place) → place.number < pool_size b → ((q : ℕ) → place.right ≡ Some q → q < pool_size b)
       → IsWholeAt form (site_of b) (tree_held form b) level least place (block_at b place.number) → right_in form (block_at b place.number) ≡ place.right
   right_read least level place within small whole =
       let read = read_of place (block_of least level place within whole) in
       read.same_right (names_small form.long place.right (λ q is. omega (arith, small q is, known.small)))
 
-  -- and both neighbours have the bytes of those that it names, be they small or not
+  -- and both siblings have the bytes of those that it names, be they small or not
   pub links_read : (least level : ℕ) (place : Place) → place.number < pool_size b
       → IsWholeAt form (site_of b) (tree_held form b) level least place (block_at b place.number)
-      → (neighbour (pointer_size form) (left_in form (block_at b place.number)) ≡ neighbour (pointer_size form) place.left)
-      × (neighbour (pointer_size form) (right_in form (block_at b place.number)) ≡ neighbour (pointer_size form) place.right)
+      → (sibling (pointer_size form) (left_in form (block_at b place.number)) ≡ sibling (pointer_size form) place.left)
+      × (sibling (pointer_size form) (right_in form (block_at b place.number)) ≡ sibling (pointer_size form) place.right)
   links_read least level place within whole =
       let bytes : List ℕ = block_at b place.number in
       let p : ℕ = pointer_size form in
       let fill = fields_fill form.long in
       let block = known.whole place.number within in
       let read = read_of place (block_of least level place within whole) in (
-        sym (neighbour_again form.long (drop 8 bytes) (omega (arith, fill, block.long, length-drop 8 bytes)) (dropped_bytes 8 bytes block.are_bytes)) ∙ read.left_part,
-        sym (neighbour_again form.long (drop (8 + p) bytes) (omega (arith, fill, block.long, length-drop (8 + p) bytes)) (dropped_bytes (8 + p) bytes block.are_bytes))
+        sym (sibling_again form.long (drop 8 bytes) (omega (arith, fill, block.long, length-drop 8 bytes)) (dropped_bytes 8 bytes block.are_bytes)) ∙ read.left_part,
+        sym (sibling_again form.long (drop (8 + p) bytes) (omega (arith, fill, block.long, length-drop (8 + p) bytes)) (dropped_bytes (8 + p) bytes block.are_bytes))
             ∙ read.right_part,
       )
 
-  -- a block whose neighbours alone are others holds what it held
-  pub relinked_holds : (after : Blocks) (place place' : Place) (at : IsBlockAt form (site_of b) place (block_at b place.number))
+  -- a block whose siblings alone are others holds what it held
+  pub with_left_holds : (after : Blocks) (place place' : Place) (at : IsBlockAt form (site_of b) place (block_at b place.number))
       → block_at after place.number ≡ tree_block form (site_of b) place' at.count at.items → HoldsSame form b after place.number
-  relinked_holds after place place' at is =
+  with_left_holds after place place' at is =
       let was = read_of place at in
       let now = block_read form (site_of b) place' at.count at.items (block_at after place.number) known.identified at.room is in
       let count : count_in (block_at after place.number) ≡ count_in (block_at b place.number) = now.same_count at.small ∙ sym (was.same_count at.small) in
@@ -108,10 +108,10 @@ whole_as form site held held' least (suc level) place place' bytes bytes' record
   most_items = omega (arith, whole.most_items, ap length entries);
 }
 
--- a block's bytes tell of its neighbours no more than theirs
+-- a block's bytes tell of its siblings no more than theirs
 pub whole_moved : {X : Type 0} (form : Form X) (site : Site) (held : Held X) (least level : ℕ) (place place' : Place) (bytes : List ℕ) → place'.number ≡ place.number
-    → place'.level ≡ place.level → neighbour (pointer_size form) place'.left ≡ neighbour (pointer_size form) place.left
-    → neighbour (pointer_size form) place'.right ≡ neighbour (pointer_size form) place.right → IsWholeAt form site held level least place bytes
+    → place'.level ≡ place.level → sibling (pointer_size form) place'.left ≡ sibling (pointer_size form) place.left
+    → sibling (pointer_size form) place'.right ≡ sibling (pointer_size form) place.right → IsWholeAt form site held level least place bytes
     → IsWholeAt form site held level least place' bytes
 unfolding tree_block header
 whole_moved form site held least level place place' bytes number same left right =

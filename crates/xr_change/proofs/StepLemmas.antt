@@ -4,27 +4,27 @@ use Rattle.std.proofs.Math.Seq.{drop-cons, split_at}
 use Rattle.std.proofs.lemmas.List.{length-append, length-drop, length-take-le}
 use Rattle.xr_kinds.specs.Form.{Form, IsForm}
 use Rattle.xr_pool.specs.Overlay.{Blocks, block_at, pool_size}
-use Rattle.xr_block.specs.Rows.{half, key_held, named_below}
+use Rattle.xr_block.specs.Rows.{min_records, key_held, named_below}
 use Rattle.xr_block.specs.Tree.{site_of, records_of, tree_held}
 use Rattle.xr_block.specs.TreeBlock.{Entry, Place, Site, count_in, entries_in}
 use Rattle.xr_change.proofs.DescentLemmas.{names_around}
 use Rattle.xr_change.proofs.NodeContextLemmas.{row_has, rows_among}
 use Rattle.xr_change.proofs.BlockInTreeLemmas.{in_pool, is_under}
 use Rattle.xr_change.proofs.RowItemLemmas.{block_key, block_whole, child_at, items_counted, row_whole, whole_least}
-use Rattle.xr_change.proofs.NodeChangeLemmas.{alters_above, node_mends, node_stays, records_above}
+use Rattle.xr_change.proofs.NodeChangeLemmas.{alters_above, node_names, node_stays, records_above}
 use Rattle.xr_change.proofs.ParentLemmas.{kth_node, kth_of}
 use Rattle.xr_change.proofs.RowBlockLemmas.{alters_takes, times_row, alters_then, children}
 use Rattle.xr_change.proofs.WriteLemmas.{set_around, same_count, unchanged_less}
 use Rattle.xr_change.specs.Alters.{AreKnown, AreRowsIn, Takes}
-use Rattle.xr_change.specs.Changes.{Changes, HasRoom, HasSpare, HasWay, Inserts, MayMend, Removes, Replaces}
-use Rattle.xr_change.specs.Regroups.{HoldsNow, HasKey, Mends, entry_for, items_in, place_of}
+use Rattle.xr_change.specs.Changes.{Changes, HasPathWithRoom, HasPathWithSurplus, HasPath, Inserts, MayUpdateKey, Removes, Replaces}
+use Rattle.xr_change.specs.Regroups.{HoldsNow, GivesKey, NamesChildren, entry_for, items_in, place_named}
 use Rattle.xr_change.specs.Sets.{inserted, removed, replaced}
-use Rattle.xr_change.specs.Ways.{IsInTree, IsKth, child_of, full_on_way, item_count}
+use Rattle.xr_change.specs.Paths.{IsInTree, IsChildAt, child_of, full_on_path, item_count}
 use Rattle.xr_change.specs.Writes.{WritesOnly, MarksAtMost, is_changed, unchanged, unmarked}
 use Rattle.xr_block.specs.EditLaws.{node_count, node_entries, node_moved}
 use Rattle.xr_block.specs.Edits.{IsNodeOf, with_key}
 use Rattle.xr_block.specs.DescentLaws.{node_few}
-use Rattle.xr_block.specs.UnderLaws.{half_some}
+use Rattle.xr_block.specs.UnderLaws.{min_records_some}
 use Rattle.xr_block.specs.NodeEntries.{key_in}
 use Rattle.xr_block.specs.NodeEntryLaws.{entry_read, length-entries}
 
@@ -74,13 +74,13 @@ module _ {X : Type 0} (form : Form X) where
   row_below b least level pre c post rows = (rows.owned c (omega (arith, row_has c c pre post refl, times_row form b c level (pre ++ c ∷ post)))).below
 
   pub row_keyed : (laws : IsForm form) (b : Blocks) (known : AreKnown b) (level : ℕ) (pre : List ℕ) (c : ℕ) (post : List ℕ)
-      → AreRowsIn form b (half form level) level (pre ++ c ∷ post) → HasKey form level (block_at b c)
+      → AreRowsIn form b (min_records form level) level (pre ++ c ∷ post) → GivesKey form level (block_at b c)
   row_keyed laws b known level pre c post rows =
-      let whole = row_whole form laws b known (half form level) level (pre ++ c ∷ post) rows c (row_has c c pre post refl) in
-      let place : Place = place_of form b level c in
+      let whole = row_whole form laws b known (min_records form level) level (pre ++ c ∷ post) rows c (row_has c c pre post refl) in
+      let place : Place = place_named form b level c in
       block_key form laws level (site_of b) place (items_in form level (block_at b c)) (block_at b c)
-      (block_whole form laws b level (half form level) place known.identified (known.whole c (row_below b (half form level) level pre c post rows)) whole)
-      (omega (arith, items_counted form b level c, whole_least form b level (half form level) place whole, half_some form laws level))
+      (block_whole form laws b level (min_records form level) place known.identified (known.whole c (row_below b (min_records form level) level pre c post rows)) whole)
+      (omega (arith, items_counted form b level c, whole_least form b level (min_records form level) place whole, min_records_some form laws level))
 
 -- a child that has its key already
 pub keyed_again : {X : Type 0} (form : Form X) (laws : IsForm form) (site : Site) (place : Place) (entries : List Entry) (bytes : List ℕ) → IsNodeOf form site place entries bytes
@@ -95,9 +95,9 @@ keyed_again form laws site place entries bytes whole k key within is =
 
 -- the tree under a child became another one, and the node gives it its key
 module _ {X : Type 0} (form : Form X) (laws : IsForm form) (a s b : Blocks) (lost level n k c : ℕ) (change : List X → List X)
-    (way : HasWay form a s lost level n k change) (child : c ≡ child_of form s n k) (below : Changes form s b lost level c change) where
+    (path : HasPath form a s lost level n k change) (child : c ≡ child_of form s n k) (below : Changes form s b lost level c change) where
   abbrev at : IsInTree form s (suc level) n
-  at = way.here
+  at = path.here
 
   abbrev cs : List ℕ
   cs = named_below (tree_held form s) n
@@ -106,22 +106,22 @@ module _ {X : Type 0} (form : Form X) (laws : IsForm form) (a s b : Blocks) (los
   es = entries_in form (block_at s n)
 
   around : cs ≡ take k cs ++ c ∷ drop (suc k) cs
-  around = names_around form s level n k at way.within ∙ ap (λ (m : ℕ). take k cs ++ m ∷ drop (suc k) cs) (sym child)
+  around = names_around form s level n k at path.within ∙ ap (λ (m : ℕ). take k cs ++ m ∷ drop (suc k) cs) (sym child)
 
   takes : Takes form s b level (c ∷ []) (c ∷ [])
-  takes = alters_takes form s b level c (below.alters (half form level) (omega (arith, way.least, ap (item_count form s level) child)))
+  takes = alters_takes form s b level c (below.alters (min_records form level) (omega (arith, path.least, ap (item_count form s level) child)))
 
   stays : block_at b n ≡ block_at s n
   stays = node_stays form s b level n (take k cs) (c ∷ []) (c ∷ []) (drop (suc k) cs) around takes at.least at.pre at.post at.rows
 
-  pub may_mend : MayMend form b level n k c
-  may_mend = record {
+  pub may_update_key : MayUpdateKey form b level n k c
+  may_update_key = record {
     here = subst (λ (size : ℕ). suc n ≤ size) (sym takes.same.pool) (in_pool form s (suc level) n at);
     pre = children form s at.pre ++ take k cs;
     post = drop (suc k) cs ++ children form s at.post;
     rows = takes.rows (children form s at.pre ++ take k cs) (drop (suc k) cs ++ children form s at.post)
         (rows_among form s n (take k cs) (c ∷ []) (drop (suc k) cs) around at.pre at.post at.least level at.rows);
-    within = omega (arith, ap count_in stays, way.within, length-entries form (block_at s n));
+    within = omega (arith, ap count_in stays, path.within, length-entries form (block_at s n));
     few = omega (arith, ap count_in stays, node_few form laws s (suc level) level n refl (is_under form s (suc level) n at));
   }
 
@@ -130,59 +130,59 @@ module _ {X : Type 0} (form : Form X) (laws : IsForm form) (a s b : Blocks) (los
     abbrev mended : List Entry
     mended = take k es ++ entry_for form b level c ∷ drop (suc k) es
 
-    kth : IsKth form s level n k c
-    kth = kth_of form laws s level n k c known at way.within child
+    kth : IsChildAt form s level n k c
+    kth = kth_of form laws s level n k c known at path.within child
 
     long : length mended ≡ length es
-    long = omega (arith, way.within, length-append {A = Entry}, length-take-le k es (omega (arith, way.within)), length-drop {A = Entry})
+    long = omega (arith, path.within, length-append {A = Entry}, length-take-le k es (omega (arith, path.within)), length-drop {A = Entry})
 
     now : HoldsNow form s d n mended
     now =
-        let place : Place = place_of form s (suc level) n in
+        let place : Place = place_named form s (suc level) n in
         let node = kth_node form laws s level n k c kth in
         let none : Entry = record { key = []; child = 0 } in
         let key : List ℕ = key_held form (tree_held form b) level c in
         holds_now form laws s n place node d mended
         (has_edited form laws s n place node b d es mended (with_key k key) made (has_same form laws s n place node b stays)
-        (keyed_at es k c key none way.within (child_at form s n k c none way.within (sym child))))
+        (keyed_at es k c key none path.within (child_at form s n k c none path.within (sym child))))
 
-    mends : Mends form s b d level n (take k cs ++ c ∷ drop (suc k) cs)
-    mends = node_mends form s b level n k (suc k) (c ∷ []) (c ∷ []) around takes at.least at.pre at.post at.rows d only now (omega (arith, long, kth.few))
+    naming : NamesChildren form s b d level n (take k cs ++ c ∷ drop (suc k) cs)
+    naming = node_names form s b level n k (suc k) (c ∷ []) (c ∷ []) around takes at.least at.pre at.post at.rows d only now (omega (arith, long, kth.few))
 
     count_above : length (entries_in form (block_at d n)) ≡ length es
     count_above = ap length now.holds ∙ long
 
     changes_above : Changes form a d lost (suc level) n change
     changes_above = record {
-      alters = λ floor low. alters_then form a s d floor (suc level) n (way.same floor low).alters
-          (alters_above form s b level n (take k cs) (c ∷ []) (c ∷ []) (drop (suc k) cs) around takes at.least at.pre at.post at.rows d mends floor
-          (λ least low some. omega (arith, some, count_above, ap length mends.now.holds)));
-      set = records_above form s b level n (take k cs) (c ∷ []) (c ∷ []) (drop (suc k) cs) around takes at.least at.pre at.post at.rows d mends
+      alters = λ floor low. alters_then form a s d floor (suc level) n (path.same floor low).alters
+          (alters_above form s b level n (take k cs) (c ∷ []) (c ∷ []) (drop (suc k) cs) around takes at.least at.pre at.post at.rows d naming floor
+          (λ least low some. omega (arith, some, count_above, ap length naming.now.holds)));
+      set = records_above form s b level n (take k cs) (c ∷ []) (c ∷ []) (drop (suc k) cs) around takes at.least at.pre at.post at.rows d naming
           ∙ ap (λ (rs : List X). records_of form s level (take k cs) ++ (rs ++ records_of form s level (drop (suc k) cs)))
-          (below.set ∙ ap (λ (m : ℕ). change (records_of form s level (m ∷ []))) child) ∙ sym way.there;
+          (below.set ∙ ap (λ (m : ℕ). change (records_of form s level (m ∷ []))) child) ∙ sym path.there;
       marks = record {
-        stay = λ m is. marks.stay m (below.marks.stay m (way.stay m is));
-        few = omega (arith, way.few, below.marks.few, marks.few, ap (unchanged s) child, unchanged_less (is_changed s n) (is_changed b n) (below.marks.stay n));
+        stay = λ m is. marks.stay m (below.marks.stay m (path.stay m is));
+        few = omega (arith, path.few, below.marks.few, marks.few, ap (unchanged s) child, unchanged_less (is_changed s n) (is_changed b n) (below.marks.stay n));
       };
     }
 
 module _ {X : Type 0} (form : Form X) (laws : IsForm form) (a s b : Blocks) (level n k c : ℕ) (child : c ≡ child_of form s n k) (known : AreKnown s) (d : Blocks)
     (only : WritesOnly b d n) (free : d.free ≡ b.free) (marks : MarksAtMost b d (unmarked b (n ∷ []))) (made : Edits form b d n (with_key k (key_held form (tree_held form b) level c))) where
-  pub inserts_above : (r : X) → HasRoom form a s level n r k → Inserts form s b level c r → Inserts form a d (suc level) n r
+  pub inserts_above : (r : X) → HasPathWithRoom form a s level n r k → Inserts form s b level c r → Inserts form a d (suc level) n r
   inserts_above r room under = record {
-    changes = changes_above form laws a s b 0 level n k c (inserted form.order r) room.way child under.changes known d only marks made;
-    grown = omega (arith, room.grown, count_above form laws a s b 0 level n k c (inserted form.order r) room.way child under.changes known d only marks made);
-    free = omega (arith, under.free, room.taken, ap (λ (m : ℕ). full_on_way form s level m r) child, same_count b d free only.same.pool);
+    changes = changes_above form laws a s b 0 level n k c (inserted form.order r) room.path child under.changes known d only marks made;
+    grown = omega (arith, room.grown, count_above form laws a s b 0 level n k c (inserted form.order r) room.path child under.changes known d only marks made);
+    free = omega (arith, under.free, room.taken, ap (λ (m : ℕ). full_on_path form s level m r) child, same_count b d free only.same.pool);
   }
 
-  pub removes_above : (r : X) → HasSpare form a s level n r k → Removes form s b level c r → Removes form a d (suc level) n r
+  pub removes_above : (r : X) → HasPathWithSurplus form a s level n r k → Removes form s b level c r → Removes form a d (suc level) n r
   removes_above r spare under = record {
-    changes = changes_above form laws a s b 1 level n k c (removed form.order r) spare.way child under.changes known d only marks made;
+    changes = changes_above form laws a s b 1 level n k c (removed form.order r) spare.path child under.changes known d only marks made;
     free = omega (arith, spare.free, under.free, same_count b d free only.same.pool);
   }
 
-  pub replaces_above : (old new : X) → HasWay form a s 0 level n k (replaced form.order old new) → s.free ≡ a.free → Replaces form s b level c old new → Replaces form a d (suc level) n old new
-  replaces_above old new way same under = record {
-    changes = changes_above form laws a s b 0 level n k c (replaced form.order old new) way child under.changes known d only marks made;
+  pub replaces_above : (old new : X) → HasPath form a s 0 level n k (replaced form.order old new) → s.free ≡ a.free → Replaces form s b level c old new → Replaces form a d (suc level) n old new
+  replaces_above old new path same under = record {
+    changes = changes_above form laws a s b 0 level n k c (replaced form.order old new) path child under.changes known d only marks made;
     free = free ∙ under.free ∙ same;
   }

@@ -10,7 +10,7 @@ use Rattle.xr_kinds.specs.Form.{Form, IsForm, key_size, pointer_size}
 use Rattle.xr_block.specs.Frame.{ChangesOnly}
 use Rattle.xr_block.specs.FrameLaws.{then_changes}
 use Rattle.xr_pool.specs.Overlay.{AreBlocks, Blocks, block_at, is_free, pool_size, with_given, with_taken}
-use Rattle.xr_block.specs.Rows.{AreLinked, AreNamed, AreRowsOf, half, named_below}
+use Rattle.xr_block.specs.Rows.{AreLinked, AreNamed, AreRowsOf, min_records, named_below}
 use Rattle.xr_block.specs.Times.{times}
 use Rattle.xr_block.specs.Tree.{AreRecords, IsTreeIn, IsUsed, blocks_of, least_of_root, records_of, site_of, tree_held, tree_records, tree_blocks}
 use Rattle.xr_block.specs.TreeBlock.{Entry, entries_in}
@@ -18,21 +18,21 @@ use Rattle.xr_change.proofs.DescentLemmas.{row_least}
 use Rattle.xr_change.proofs.FullPathLemmas.{full_below, full_one, full_same}
 use Rattle.xr_change.proofs.BlockInTreeLemmas.{one_more, leaf_alone}
 use Rattle.xr_change.proofs.SameItemLemmas.{item_same}
-use Rattle.xr_change.proofs.RowItemLemmas.{half_is, items_counted}
+use Rattle.xr_change.proofs.RowItemLemmas.{min_records_is, items_counted}
 use Rattle.xr_change.proofs.SiblingLemmas.{names_small}
 use Rattle.xr_change.proofs.RowBlockLemmas.{HoldSame, below, blocks_same, children, holds_same, key_same, least_alone, least_less, not_alone, records_below, records_same, pool_same, rows_stay, times_below, times_row, same_or_other}
 use Rattle.xr_change.proofs.SetLemmas.{removed_rules}
 use Rattle.xr_change.proofs.WriteLemmas.{more_free, taken_count, unmarked_few}
 use Rattle.xr_change.specs.Alters.{AreKnown, AreRowsIn, HoldsSame, Alters, IsSamePool}
 use Rattle.xr_change.specs.Changes.{Changes}
-use Rattle.xr_change.specs.Lowers.{Lowers, Raises}
+use Rattle.xr_change.specs.Roots.{ShrinksRoot, GrowsRoot}
 use Rattle.xr_change.specs.Regroups.{entry_for}
 use Rattle.xr_change.specs.Sets.{removed}
-use Rattle.xr_change.specs.Ways.{child_of, full_on_way, item_count, item_most, passing, way_place, HasSome, HasTwo, IsInTree}
+use Rattle.xr_change.specs.Paths.{child_of, full_on_path, item_count, max_records, passing, path_index, HasSome, HasTwo, IsInTree}
 use Rattle.xr_change.specs.Writes.{Writes}
 use Rattle.xr_block.specs.EditLaws.{node_entries}
 use Rattle.xr_block.specs.Edits.{IsNodeOf}
-use Rattle.xr_block.specs.UnderLaws.{half_some}
+use Rattle.xr_block.specs.UnderLaws.{min_records_some}
 
 none_of : (n : ℕ) (xs : List ℕ) → ¬ (Contains xs n) → times n xs ≡ 0
 none_of n xs without = same_or_other (times n xs) 0
@@ -69,8 +69,8 @@ module _ {X : Type 0} (form : Form X) where
     owned = all_of (IsUsed (is_free b) (pool_size b)) (blocks_of form b level (root ∷ [])) known.owned;
   }
 
-  pub root_less : (laws : IsForm form) (level : ℕ) → least_of_root level ≤ half form level
-  unfolding half
+  pub root_less : (laws : IsForm form) (level : ℕ) → least_of_root level ≤ min_records form level
+  unfolding min_records
   root_less laws zero = omega arith
   root_less laws (suc level) = omega (arith, laws.node_some)
 
@@ -147,19 +147,19 @@ module _ {X : Type 0} (form : Form X) where
       low : least_of_root level - 1 + 1 ≤ item_count form a level n
       low = omega (arith, root_least, some_item form a level n root_least r held)
 
-      pub cut_some : HasSome form b level n
-      cut_some = some_if form b level n (omega (arith, changed_least a b (least_of_root level - 1) 1 level n (removed form.order r) loose low below))
+      pub removed_some : HasSome form b level n
+      removed_some = some_if form b level n (omega (arith, changed_least a b (least_of_root level - 1) 1 level n (removed form.order r) loose low below))
 
-      pub cut_rows : AreRowsIn form b 0 level (n ∷ [])
-      cut_rows = least_alone form b (least_of_root level - 1) 0 level n (changed_rows a b (least_of_root level - 1) 1 level n (removed form.order r) loose low below) (omega arith)
+      pub split_rows : AreRowsIn form b 0 level (n ∷ [])
+      split_rows = least_alone form b (least_of_root level - 1) 0 level n (changed_rows a b (least_of_root level - 1) 1 level n (removed form.order r) loose low below) (omega arith)
 
-      pub cut_frame : (z : Blocks) (root' level' : ℕ) → Lowers form b z n level root' level' → ChangesOnly a (tree_blocks form a n level) z (tree_blocks form z root' level')
-      cut_frame z root' level' lower =
+      pub removed_frame : (z : Blocks) (root' level' : ℕ) → ShrinksRoot form b z n level root' level' → ChangesOnly a (tree_blocks form a n level) z (tree_blocks form z root' level')
+      removed_frame z root' level' shrink_root =
           then_changes a b z (tree_blocks form a n level) (tree_blocks form b n level) (tree_blocks form z root' level')
-          (changed_frame a b (least_of_root level - 1) 1 level n (removed form.order r) loose low below) lower.frame
+          (changed_frame a b (least_of_root level - 1) 1 level n (removed form.order r) loose low below) shrink_root.frame
 
-      pub cut_rules : AreRecords form (tree_records form b n level)
-      cut_rules = subst (AreRecords form) (sym below.set) (removed_rules form r (tree_records form a n level) tree.records)
+      pub rules_after_removal : AreRecords form (tree_records form b n level)
+      rules_after_removal = subst (AreRecords form) (sym below.set) (removed_rules form r (tree_records form a n level) tree.records)
 
 pub pointer_fits : {X : Type 0} (form : Form X) (b : Blocks) → AreKnown b → (n : ℕ) → n < pool_size b → n < 256 ^ pointer_size form
 pointer_fits form b known n within =
@@ -169,13 +169,13 @@ pub one_entry : {X : Type 0} (form : Form X) (e : Entry) → length e.key ≡ ke
 one_entry form e long small zero d within = (long, small)
 one_entry form e long small (suc k) d within = absurd (omega (arith, within))
 
-module _ {X : Type 0} (form : Form X) (laws : IsForm form) (a : Blocks) (level root : ℕ) (tree : IsTreeIn form a root level) (full : item_count form a level root ≡ item_most form level)
+module _ {X : Type 0} (form : Form X) (laws : IsForm form) (a : Blocks) (level root : ℕ) (tree : IsTreeIn form a root level) (full : item_count form a level root ≡ max_records form level)
     (p : ℕ) (was : is_free a p ≡ true) (all : AreBlocks a) (range : (1 ≤ p) × (p < pool_size a)) where
   abbrev old : List ℕ
   old = blocks_of form a level (root ∷ [])
 
-  known : AreRowsIn form a (half form level) level (root ∷ [])
-  known = least_alone form a (least_of_root level) (half form level) level root (tree_rows form a level root tree) (omega (arith, full, half_is form level))
+  known : AreRowsIn form a (min_records form level) level (root ∷ [])
+  known = least_alone form a (least_of_root level) (min_records form level) level root (tree_rows form a level root tree) (omega (arith, full, min_records_is form level))
 
   room : p < 8 * length a.free
   room = omega (arith, range.1, all.map_room)
@@ -185,12 +185,12 @@ module _ {X : Type 0} (form : Form X) (laws : IsForm form) (a : Blocks) (level r
 
   -- the blocks below the root are no other ones where p alone is taken and written
   beside : (b : Blocks) → IsSamePool a b → ((m : ℕ) → (m ≡ p → ⊥) → (block_at b m ≡ block_at a m) × (is_free b m ≡ is_free a m))
-      → AreRowsIn form b (half form level) level (root ∷ [])
+      → AreRowsIn form b (min_records form level) level (root ∷ [])
   beside b pool same =
-      rows_stay form a b (half form level) level (root ∷ []) known pool
+      rows_stay form a b (min_records form level) level (root ∷ []) known pool
       (λ m some. let used = (known.owned m some).taken in let still = same m (apart m used) in (still.0, still.1 ∙ used))
 
-  pub rows_taken : AreRowsIn form (with_taken a p) (half form level) level (root ∷ [])
+  pub rows_taken : AreRowsIn form (with_taken a p) (min_records form level) level (root ∷ [])
   rows_taken = beside (with_taken a p) (record { site = refl; pool = refl; kept = refl; kept_free = refl }) (λ m other. (refl, bit_cleared_other a.free p m room other))
 
   out : times p old ≡ 0
@@ -244,15 +244,15 @@ module _ {X : Type 0} (form : Form X) (laws : IsForm form) (a : Blocks) (level r
           (beside b pool others).owned m (omega (arith, some, times_other m p [] other, counted m, ap (times m) (blocks_same form a b level (root ∷ []) same))));
     }
 
-    pub raised : (r : X) → Raises form a b root level p (suc level) r
+    pub root_grown : (r : X) → GrowsRoot form a b root level p (suc level) r
     unfolding passing
-    raised r =
+    root_grown r =
         let records : records_of form b (suc level) (p ∷ []) ≡ tree_records form a root level =
         records_below form b level (p ∷ []) ∙ rw parent (records_same form a b level (root ∷ []) same) in
         let child : child_of form b p 0 ≡ root = ap (λ (es : List Entry). get_or (map (λ (e : Entry). e.child) es) 0 0) holds in
-        let first : 0 ≡ way_place form r (entries_in form (block_at b p)) = rw holds (grind arith) in
+        let first : 0 ≡ path_index form r (entries_in form (block_at b p)) = rw holds (grind arith) in
         let one : item_count form b (suc level) p ≡ 1 = ap length holds in
-        let some : 1 ≤ item_count form a level root = omega (arith, full, half_is form level, half_some form laws level) in
+        let some : 1 ≤ item_count form a level root = omega (arith, full, min_records_is form level, min_records_some form laws level) in
         let count : item_count form b level root ≡ item_count form a level root =
         items_counted form b level root ∙ ap length (item_same form a b level root same_root) ∙ sym (items_counted form a level root) in
         record {
@@ -267,13 +267,13 @@ module _ {X : Type 0} (form : Form X) (laws : IsForm form) (a : Blocks) (level r
           some = omega (arith, one);
           one = one;
           room = omega (arith, one, laws.node_some);
-          next = rw (← first) (full_one (item_count form b level (child_of form b p 0)) (item_most form level) (ap (item_count form b level) child ∙ count ∙ full));
+          next = rw (← first) (full_one (item_count form b level (child_of form b p 0)) (max_records form level) (ap (item_count form b level) child ∙ count ∙ full));
           free = omega (
             arith,
             full_below form laws r b level p 0 (omega (arith, one, laws.node_some)) first,
-            ap (λ (m : ℕ). full_on_way form b level m r) child,
+            ap (λ (m : ℕ). full_on_path form b level m r) child,
             full_same form laws r a b level root (root_here form a level root tree) some same,
-            full_one (item_count form a level root) (item_most form level) full,
+            full_one (item_count form a level root) (max_records form level) full,
           );
           count = taken_count a b p all range.0 range.1 was writes.same.pool writes.free;
           marks = record { stay = writes.marks.stay; few = omega (arith, writes.marks.few, unmarked_few a (p ∷ [])) };
@@ -283,7 +283,7 @@ module _ {X : Type 0} (form : Form X) (laws : IsForm form) (a : Blocks) (level r
 -- a root that stays, and one whose only child takes its place
 module _ {X : Type 0} (form : Form X) (laws : IsForm form) (a : Blocks) where
   pub root_stays : (level n : ℕ) → AreRowsIn form a 0 level (n ∷ []) → AreRecords form (tree_records form a n level) → least_of_root level ≤ item_count form a level n
-      → Lowers form a a n level n level
+      → ShrinksRoot form a a n level n level
   root_stays level n known rules many = record {
     tree = tree_of_rows form a n level (least_alone form a 0 (least_of_root level) level n known many) rules;
     records = refl;
@@ -323,18 +323,18 @@ module _ {X : Type 0} (form : Form X) (laws : IsForm form) (a : Blocks) where
     kept : IsSamePool a after
     kept = record { site = refl; pool = refl; kept = refl; kept_free = refl }
 
-    lower_rows : AreRowsIn form after (half form level) level (c ∷ [])
+    lower_rows : AreRowsIn form after (min_records form level) level (c ∷ [])
     lower_rows =
-        let before = subst (AreRowsIn form a (half form level) level) row (below form a 0 level (n ∷ []) known) in
-        rows_stay form a after (half form level) level (c ∷ []) before kept
+        let before = subst (AreRowsIn form a (min_records form level) level) row (below form a 0 level (n ∷ []) known) in
+        rows_stay form a after (min_records form level) level (c ∷ []) before kept
         (λ m some. (refl, still m (not_alone m n (omega (arith, some, known.once m, times_low m))) ∙ (before.owned m some).taken))
 
-    pub lowered : AreRecords form (tree_records form a n (suc level)) → Lowers form a after n (suc level) c level
-    lowered rules =
+    pub root_shrunk : AreRecords form (tree_records form a n (suc level)) → ShrinksRoot form a after n (suc level) c level
+    root_shrunk rules =
         let records : tree_records form a n (suc level) ≡ tree_records form a c level = records_below form a level (n ∷ []) ∙ ap (records_of form a level) row in
         let here : is_free after n ≡ true = bit_set a.free n given in
         record {
-          tree = tree_of_rows form after c level (least_less form after (half form level) (least_of_root level) level (c ∷ []) lower_rows (root_less form laws level))
+          tree = tree_of_rows form after c level (least_less form after (min_records form level) (least_of_root level) level (c ∷ []) lower_rows (root_less form laws level))
               (subst (AreRecords form) records rules);
           records = sym records;
           frame = frame_of form a after kept (blocks_of form a (suc level) (n ∷ [])) (blocks_of form a level (c ∷ []))

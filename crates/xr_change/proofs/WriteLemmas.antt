@@ -22,7 +22,7 @@ set_around [] k x within = absurd (omega (arith, within))
 set_around (y ∷ ys) zero x within = refl
 set_around (y ∷ ys) (suc k) x within = ap (λ (rest : List _). y ∷ rest) (set_around ys k x (omega (arith, within)))
 
--- an edit of what stands behind an item that is set
+-- an edit of what stands after an item that is set
 pub set_then : {X : Type 0} (at : List X → ℕ → List X) → ((z : X) (zs : List X) (i : ℕ) → at (z ∷ zs) (suc i) ≡ z ∷ at zs i)
     → (xs : List X) (k : ℕ) (x : X) → k < length xs → at (set xs k x) (suc k) ≡ take k xs ++ x ∷ at (drop (suc k) xs) 0
 set_then at step [] k x within = absurd (omega (arith, within))

@@ -3,7 +3,7 @@ use Rattle.std.specs.Prelude.{◌≡◌, ℕ, zero, suc, ◌≤◌, true, false,
 use Rattle.xr_kinds.specs.Form.{Form}
 use Rattle.xr_base.specs.declared.geometry.TheConstants.{BLOCKS}
 use Rattle.xr_pool.specs.Overlay.{AreBlocks, AreWhole, Blocks, block_at, is_free, pool_size}
-use Rattle.xr_block.specs.Rows.{AreRowsOf, Held, IsWholeLeaf, IsWholeNode, half}
+use Rattle.xr_block.specs.Rows.{AreRowsOf, Held, IsWholeLeaf, IsWholeNode, min_records}
 use Rattle.xr_block.specs.Times.{times}
 use Rattle.xr_block.specs.Tree.{IsUsed, blocks_of, site_of, tree_held}
 use Rattle.xr_block.specs.TreeBlock.{Place, Site, entries_in, records_in}
@@ -44,7 +44,7 @@ pub record Alters {X : Type 0} (form : Form X) (before after : Blocks) (floor le
   -- in each row that the block stands in
   pub rows : (least : ℕ) (pre post : List ℕ) → least ≤ floor → AreRowsIn form before least level (pre ++ n ∷ post)
       → AreRowsIn form after least level (pre ++ n ∷ post)
-  -- what stands elsewhere holds what it held and belongs to it still: at most a link to a neighbour is another one
+  -- what stands elsewhere holds what it held and belongs to it still: at most a link to a sibling is another one
   pub held : (m : ℕ) → is_free before m ≡ false → times m (blocks_of form before level (n ∷ [])) ≡ 0
       → HoldsSame form before after m × (is_free after m ≡ false) × (times m (blocks_of form after level (n ∷ [])) ≡ 0)
   -- and what stands in no row from here on down isn't touched
@@ -57,10 +57,10 @@ pub record Alters {X : Type 0} (form : Form X) (before after : Blocks) (floor le
 -- some blocks of a row are taken for others, whatever stands beside them there
 pub record Takes {X : Type 0} (form : Form X) (before after : Blocks) (level : ℕ) (old new : List ℕ) : Type 0 where
   pub same : IsSamePool before after
-  pub rows : (pre post : List ℕ) → AreRowsIn form before (half form level) level (pre ++ (old ++ post)) → AreRowsIn form after (half form level) level (pre ++ (new ++ post))
+  pub rows : (pre post : List ℕ) → AreRowsIn form before (min_records form level) level (pre ++ (old ++ post)) → AreRowsIn form after (min_records form level) level (pre ++ (new ++ post))
   pub held : (m : ℕ) → is_free before m ≡ false → times m (blocks_of form before level old) ≡ 0
       → HoldsSame form before after m × (is_free after m ≡ false) × (times m (blocks_of form after level new) ≡ 0)
-  pub bytes : (pre post : List ℕ) → AreRowsIn form before (half form level) level (pre ++ (old ++ post)) → (m : ℕ)
+  pub bytes : (pre post : List ℕ) → AreRowsIn form before (min_records form level) level (pre ++ (old ++ post)) → (m : ℕ)
       → is_free before m ≡ false → times m (blocks_of form before level (pre ++ (old ++ post))) ≡ 0 → block_at after m ≡ block_at before m
   pub freed : (m : ℕ) → 1 ≤ times m (blocks_of form before level old) → times m (blocks_of form after level new) ≡ 0 → is_free after m ≡ true
   pub spare : (m : ℕ) → is_free before m ≡ true → times m (blocks_of form after level new) ≡ 0 → is_free after m ≡ true

@@ -1,9 +1,10 @@
 pub mod Alters
+pub mod Calls
 pub mod Changes
 pub mod Draft
 pub mod Lending
-pub mod Lowers
+pub mod Paths
 pub mod Regroups
+pub mod Roots
 pub mod Sets
-pub mod Ways
 pub mod Writes

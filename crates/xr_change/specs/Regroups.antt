@@ -1,15 +1,15 @@
 -- The items of a block of any level, records of a leaf or entries of a node, and neighbouring children of a node that are taken for others which
--- hold the same items: one is split, two share their items anew, or two become one.
+-- hold the same items: one is split, two rebalance their items anew, or two become one.
 use Rattle.std.specs.Prelude.{◌≡◌, ℕ, zero, suc, ◌<◌, ◌≤◌, true, Option, Some, List, [], ◌∷◌, ◌++◌, length, map, take, drop}
 use Rattle.std.specs.List.{flat_map}
 use Rattle.xr_kinds.specs.Form.{Form}
 use Rattle.xr_pool.specs.Overlay.{Blocks, block_at, is_free, pool_size}
-use Rattle.xr_block.specs.Rows.{AreLinked, half, key_held, named_below}
+use Rattle.xr_block.specs.Rows.{AreLinked, min_records, key_held, named_below}
 use Rattle.xr_block.specs.Times.{times}
 use Rattle.xr_block.specs.Tree.{blocks_of, records_of, site_of, tree_held}
 use Rattle.xr_block.specs.TreeBlock.{Entry, Place, Site, count_in, entries_in, node_bytes, records_in, tree_block}
 use Rattle.xr_change.specs.Alters.{Alters, HoldsSame, IsWholeAt, Takes}
-use Rattle.xr_change.specs.Ways.{item_most}
+use Rattle.xr_change.specs.Paths.{max_records}
 use Rattle.xr_change.specs.Writes.{Writes, WritesOnly}
 use Rattle.xr_block.specs.Edits.{IsLeafOf, IsNodeOf}
 use Rattle.xr_block.specs.Checks.{HoldsRecords, left_in, place_in, right_in}
@@ -28,26 +28,26 @@ IsBlockOf form zero site place items bytes = IsLeafOf form site place items byte
 IsBlockOf form (suc level) site place items bytes = IsNodeOf form site place items bytes
 
 -- the place that a block names
-abbrev pub place_of : {X : Type 0} → Form X → Blocks → ℕ → ℕ → Place
-place_of form b level n = place_in form n level (block_at b n)
+abbrev pub place_named : {X : Type 0} → Form X → Blocks → ℕ → ℕ → Place
+place_named form b level n = place_in form n level (block_at b n)
 
 -- a block that gives a key to its parent
-pub record HasKey {X : Type 0} (form : Form X) (level : ℕ) (bytes : List ℕ) : Type 0 where
+pub record GivesKey {X : Type 0} (form : Form X) (level : ℕ) (bytes : List ℕ) : Type 0 where
   pub tested : level ≡ 0 → HoldsRecords form bytes
   pub some : 1 ≤ count_in bytes
-  pub few : count_in bytes ≤ item_most form level
+  pub few : count_in bytes ≤ max_records form level
 
--- a whole block of a level, between its neighbours
-pub record IsPlaced {X : Type 0} (form : Form X) (b : Blocks) (level c : ℕ) : Type 0 where
+-- a whole block of a level, between its siblings
+pub record IsBetweenSiblings {X : Type 0} (form : Form X) (b : Blocks) (level c : ℕ) : Type 0 where
   pub below : c < pool_size b
-  pub whole : IsWholeAt form (site_of b) (tree_held form b) level (half form level) (place_of form b level c) (block_at b c)
+  pub whole : IsWholeAt form (site_of b) (tree_held form b) level (min_records form level) (place_named form b level c) (block_at b c)
   pub left_below : (q : ℕ) → left_in form (block_at b c) ≡ Some q → q < pool_size b
   pub right_below : (q : ℕ) → right_in form (block_at b c) ≡ Some q → q < pool_size b
   pub right_apart : (q : ℕ) → right_in form (block_at b c) ≡ Some q → q ≡ c → ⊥
 
--- a block whose left neighbour was one block has another, and is the same beside
-abbrev pub IsRelinked : {X : Type 0} → Form X → Blocks → Blocks → ℕ → ℕ → ℕ → Type 0
-IsRelinked form before after q old new =
+-- a block whose left sibling was one block has another, and is the same beside
+abbrev pub HasNewLeft : {X : Type 0} → Form X → Blocks → Blocks → ℕ → ℕ → ℕ → Type 0
+HasNewLeft form before after q old new =
     (place : Place) (count : ℕ) (items : List ℕ) → place.number ≡ q → place.left ≡ Some old
     → block_at before q ≡ tree_block form (site_of before) place count items
     → block_at after q ≡ tree_block form (site_of before) (record place { left = Some new }) count items
@@ -60,16 +60,16 @@ HaveSameItems form before after level old new =
 -- where these blocks were linked, those are
 abbrev pub StayLinked : {X : Type 0} → Form X → Blocks → Blocks → ℕ → List ℕ → List ℕ → Type 0
 StayLinked form before after level old new =
-    (left right : Option ℕ) → AreLinked (IsWholeAt form (site_of before) (tree_held form before) level (half form level)) (block_at before) level left old right
-    → AreLinked (IsWholeAt form (site_of before) (tree_held form after) level (half form level)) (block_at after) level left new right
+    (left right : Option ℕ) → AreLinked (IsWholeAt form (site_of before) (tree_held form before) level (min_records form level)) (block_at before) level left old right
+    → AreLinked (IsWholeAt form (site_of before) (tree_held form after) level (min_records form level)) (block_at after) level left new right
 
--- the items of some blocks of a level, of which the last is `last`, are dealt to others, of which the last is `last'`
-pub record Deals {X : Type 0} (form : Form X) (a b : Blocks) (level : ℕ) (old new written : List ℕ) (last last' : ℕ) : Type 0 where
+-- the items of some blocks of a level, of which the last is `last`, are moved to others, of which the last is `last'`
+pub record MovesItems {X : Type 0} (form : Form X) (a b : Blocks) (level : ℕ) (old new written : List ℕ) (last last' : ℕ) : Type 0 where
   pub writes : Writes a b written
   pub linked : StayLinked form a b level old new
-  pub keyed : (m : ℕ) → 1 ≤ times m new → HasKey form level (block_at b m)
+  pub keyed : (m : ℕ) → 1 ≤ times m new → GivesKey form level (block_at b m)
   pub items : HaveSameItems form a b level old new
-  pub next : (q : ℕ) → right_in form (block_at a last) ≡ Some q → IsRelinked form a b q last last'
+  pub next : (q : ℕ) → right_in form (block_at a last) ≡ Some q → HasNewLeft form a b q last last'
 
 -- what a node holds for a child
 abbrev pub entry_for : {X : Type 0} → Form X → Blocks → ℕ → ℕ → Entry
@@ -82,7 +82,7 @@ pub record HoldsNow {X : Type 0} (form : Form X) (before after : Blocks) (n : �
   pub holds : entries_in form (block_at after n) ≡ entries
 
 -- a node names these children now, each with the key that it has
-pub record Mends {X : Type 0} (form : Form X) (a b d : Blocks) (level n : ℕ) (children : List ℕ) : Type 0 where
+pub record NamesChildren {X : Type 0} (form : Form X) (a b d : Blocks) (level n : ℕ) (children : List ℕ) : Type 0 where
   pub only : WritesOnly b d n
   pub entries : List Entry
   pub now : HoldsNow form a d n entries
@@ -100,7 +100,7 @@ pub record Regroups {X : Type 0} (form : Form X) (before after : Blocks) (level 
   pub children : (let cs = named_below (tree_held form before) n in cs ≡ take k cs ++ (old ++ drop t cs))
   pub between : Blocks
   pub takes : Takes form before between level old new
-  pub mends : (let cs = named_below (tree_held form before) n in Mends form before between after level n (take k cs ++ (new ++ drop t cs)))
+  pub naming : (let cs = named_below (tree_held form before) n in NamesChildren form before between after level n (take k cs ++ (new ++ drop t cs)))
   -- the same items are in them, and what stands below stays
   pub items : HaveSameItems form before after level old new
   pub records : records_of form between level new ≡ records_of form before level old

@@ -145,7 +145,7 @@ impl<R: Record> Draft<R> {
     }
 
     /// Takes the lowest block that is free.
-    pub(crate) fn take_spare(&mut self) -> u32
+    pub(crate) fn take_free(&mut self) -> u32
         requires { 1 ≤ free_count self.old }
         ensures taken { self.new ≡ with_taken self.old result }
         ensures within { (1 ≤ result) × (result < pool_size self.old) }

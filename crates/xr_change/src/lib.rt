@@ -1,22 +1,15 @@
 //! Changes of trees: a record more, one less, or one in the place of another.
 #![tactic(auto)]
 
-mod cut;
-mod deal;
 mod draft;
-mod grow;
-mod insertion;
-mod leaves;
-mod mend;
-mod one_block;
-mod rearrange;
-mod removal;
-mod replacement;
-mod room;
+mod insert;
+mod path;
+mod rebalance;
+mod remove;
+mod replace;
 mod root;
-mod spare;
-mod way;
-mod whole;
+mod write;
 
-pub use root::Root;
-pub use whole::{insert, remove, replace};
+pub use insert::insert_into_tree;
+pub use remove::remove_from_tree;
+pub use replace::replace_in_tree;

@@ -11,8 +11,8 @@ use Rattle.std.specs.List.{All, AllPairs, concat, find, flat_map, slice_get}
 use Rattle.std.specs.Ordering.{is_ge, is_gt, is_le, is_lt, ordering_reverse}
 use Rattle.std.specs.declared.cmp.Ordering.{Ordering}
 use Rattle.std.specs.declared.cmp.Ordering.TheVariants.{Less, Equal, Greater}
-use Rattle.xr_block.specs.declared.bound.Cut.{Cut}
-use Rattle.xr_block.specs.declared.bound.Cut.TheVariants.{Start, Before, Behind}
+use Rattle.xr_block.specs.declared.bound.Bound.{Bound}
+use Rattle.xr_block.specs.declared.bound.Bound.TheVariants.{Start, Before, After}
 use Rattle.xr_lookup.specs.declared.lookup.Wanted.{Wanted}
 use Rattle.xr_block.specs.Bounds.{IsParted, IsPlaceOf, entry_is_before, is_before, key_is_before}
 use Rattle.xr_kinds.specs.Form.{Form, IsForm}
@@ -22,14 +22,14 @@ use Rattle.xr_block.specs.NodeEntries.{child_in, high_key_in, key_in, low_key_fr
 use Rattle.xr_block.specs.NodeEntryLaws.{count_of_block, entry_read, length-entries}
 use Rattle.xr_pool.specs.Overlay.{Blocks, block_at, pool_size}
 use Rattle.xr_lookup.specs.Reach.{IsBeforeKey, IsUnderKeys}
-use Rattle.xr_block.specs.Rows.{key_held, AreRowsOf, IsWholeLeaf, IsWholeNode, half, named_below, rows_from}
+use Rattle.xr_block.specs.Rows.{key_held, AreRowsOf, IsWholeLeaf, IsWholeNode, min_records, named_below, rows_from}
 use Rattle.xr_block.specs.Tree.{site_of, tree_held, tree_records}
 use Rattle.xr_block.specs.TreeBlock.{Entry, count_in, entries_in, records_in}
 use Rattle.xr_block.specs.Under.{IsUnder}
-use Rattle.xr_block.specs.UnderLaws.{HasFirst, child_in_row, half_some, has_first, leaf_records, linked_at, named_at, node_records}
+use Rattle.xr_block.specs.UnderLaws.{HasFirst, child_in_row, min_records_some, has_first, leaf_records, linked_at, named_at, node_records}
 use Rattle.xr_lookup.proofs.FoundLemmas.{first_least}
 use Rattle.xr_lookup.proofs.HighLemmas.{IsUpTo, high_all}
-use Rattle.xr_block.specs.PartLaws.{Begins, all_of_part, all_left, all_right, find_behind, front_of_place, front_passes, last_at, last_of_none, last_of_part, last_of_parted, none_found, pairs_next, pairs_of_part, parted, some_found}
+use Rattle.xr_block.specs.PartLaws.{Begins, all_of_part, all_left, all_right, find_after, front_of_place, front_passes, last_at, last_of_none, last_of_part, last_of_parted, none_found, pairs_next, pairs_of_part, parted, some_found}
 use Rattle.xr_block.specs.DescentLaws.{falls}
 use Rattle.xr_block.specs.DescentLaws as descent
 
@@ -45,28 +45,28 @@ pub none_before : {X : Type 0} (form : Form X) (wanted : Wanted X) (x : X) → i
 none_before form wanted x before = rw before (no_more (meets_given form wanted.meeting x))
 
 -- the records of a leaf from a place on are all that may be wanted
-pub behind_in_leaf : {X : Type 0} (form : Form X) (b : Blocks) (n : ℕ) (wanted : Wanted X) (place : ℕ)
+pub after_in_leaf : {X : Type 0} (form : Form X) (b : Blocks) (n : ℕ) (wanted : Wanted X) (place : ℕ)
     → IsPlaceOf (is_before form wanted.from) (records_in form (block_at b n)) place
     → find (is_wanted form wanted) (drop place (records_in form (block_at b n))) ≡ find (is_wanted form wanted) (tree_records form b n 0)
-behind_in_leaf {X} form b n wanted place parts =
+after_in_leaf {X} form b n wanted place parts =
     let records : List X = records_in form (block_at b n) in
-    find_behind (is_wanted form wanted) (take place records) (drop place records)
+    find_after (is_wanted form wanted) (take place records) (drop place records)
     (λ k d within. none_before form wanted (get_or (take place records) k d) (front_of_place (is_before form wanted.from) records place parts k d within))
     ∙ ap (find (is_wanted form wanted)) (take-append-drop place records ∙ sym (leaf_records (tree_held form b) n))
 
-module _ {X : Type 0} (form : Form X) (b : Blocks) (n : ℕ) (cut : Cut X) where
+module _ {X : Type 0} (form : Form X) (b : Blocks) (n : ℕ) (bound : Bound X) where
   -- the last record of a leaf before a place
-  pub last_in_leaf : (place k : ℕ) → IsPlaceOf (is_before form cut) (records_in form (block_at b n)) place → place ≡ suc k
-      → slice_get (records_in form (block_at b n)) k ≡ find (is_before form cut) (reverse (tree_records form b n 0))
+  pub last_in_leaf : (place k : ℕ) → IsPlaceOf (is_before form bound) (records_in form (block_at b n)) place → place ≡ suc k
+      → slice_get (records_in form (block_at b n)) k ≡ find (is_before form bound) (reverse (tree_records form b n 0))
   last_in_leaf place k parts is =
-      sym (ap (λ (xs : List X). find (is_before form cut) (reverse xs)) (leaf_records (tree_held form b) n)
-      ∙ last_at (is_before form cut) (records_in form (block_at b n)) k (subst (IsPlaceOf (is_before form cut) (records_in form (block_at b n))) is parts))
+      sym (ap (λ (xs : List X). find (is_before form bound) (reverse xs)) (leaf_records (tree_held form b) n)
+      ∙ last_at (is_before form bound) (records_in form (block_at b n)) k (subst (IsPlaceOf (is_before form bound) (records_in form (block_at b n))) is parts))
 
-  pub none_in_leaf : (place : ℕ) → IsPlaceOf (is_before form cut) (records_in form (block_at b n)) place → place ≡ 0
-      → None ≡ find (is_before form cut) (reverse (tree_records form b n 0))
+  pub none_in_leaf : (place : ℕ) → IsPlaceOf (is_before form bound) (records_in form (block_at b n)) place → place ≡ 0
+      → None ≡ find (is_before form bound) (reverse (tree_records form b n 0))
   none_in_leaf place parts is =
-      sym (ap (λ (xs : List X). find (is_before form cut) (reverse xs)) (leaf_records (tree_held form b) n)
-      ∙ last_of_parted (is_before form cut) (records_in form (block_at b n)) (subst (IsPlaceOf (is_before form cut) (records_in form (block_at b n))) is parts))
+      sym (ap (λ (xs : List X). find (is_before form bound) (reverse xs)) (leaf_records (tree_held form b) n)
+      ∙ last_of_parted (is_before form bound) (records_in form (block_at b n)) (subst (IsPlaceOf (is_before form bound) (records_in form (block_at b n))) is parts))
 
 module _ {X : Type 0} (form : Form X) (laws : IsForm form) (b : Blocks) (top level n : ℕ) (above : top ≡ suc level) (of_top : IsUnder form b top n) where
   node : IsUnder form b (suc level) n
@@ -100,26 +100,26 @@ module _ {X : Type 0} (form : Form X) (laws : IsForm form) (b : Blocks) (top lev
   named : (k : ℕ) (d : Entry) → k < length entries → (let e = get_or entries k d in e.key ≡ key_held form (tree_held form b) level e.child)
   named = descent.named form laws b top level n above of_top
 
-  begin : (cut : Cut X) → All (Begins under (entry_is_before form cut) (is_before form cut)) entries
+  begin : (bound : Bound X) → All (Begins under (entry_is_before form bound) (is_before form bound)) entries
   begin = descent.begin form laws b top level n above of_top
 
   -- the last record before a place is under the last child that begins before it
-  pub last_in_child : (cut : Cut X) (place k c : ℕ) → IsPlaceOf (entry_is_before form cut) entries place → place ≡ suc k
+  pub last_in_child : (bound : Bound X) (place k c : ℕ) → IsPlaceOf (entry_is_before form bound) entries place → place ≡ suc k
       → ((d : Entry) → (let e = get_or entries k d in c ≡ e.child))
-      → find (is_before form cut) (reverse (tree_records form b c level)) ≡ find (is_before form cut) (reverse (tree_records form b n top))
-  last_in_child cut place k c parts is child =
+      → find (is_before form bound) (reverse (tree_records form b c level)) ≡ find (is_before form bound) (reverse (tree_records form b n top))
+  last_in_child bound place k c parts is child =
       let d : Entry = record { key = []; child = 0 } in
-      ap (λ (m : ℕ). find (is_before form cut) (reverse (tree_records form b m level))) (child d)
-      ∙ sym (last_of_part (λ (x y : X). form.order x y ≡ Less) under (entry_is_before form cut) (is_before form cut) (falls form laws cut) entries k d (begin cut)
-      all_ascend (subst (IsPlaceOf (entry_is_before form cut) entries) is parts))
-      ∙ sym (ap (λ (xs : List X). find (is_before form cut) (reverse xs)) node_holds)
+      ap (λ (m : ℕ). find (is_before form bound) (reverse (tree_records form b m level))) (child d)
+      ∙ sym (last_of_part (λ (x y : X). form.order x y ≡ Less) under (entry_is_before form bound) (is_before form bound) (falls form laws bound) entries k d (begin bound)
+      all_ascend (subst (IsPlaceOf (entry_is_before form bound) entries) is parts))
+      ∙ sym (ap (λ (xs : List X). find (is_before form bound) (reverse xs)) node_holds)
 
-  pub none_in_node : (cut : Cut X) (place : ℕ) → IsPlaceOf (entry_is_before form cut) entries place → place ≡ 0
-      → None ≡ find (is_before form cut) (reverse (tree_records form b n top))
-  none_in_node cut place parts is =
-      sym (ap (λ (xs : List X). find (is_before form cut) (reverse xs)) node_holds
-      ∙ last_of_none (λ (x y : X). form.order x y ≡ Less) under (entry_is_before form cut) (is_before form cut) (falls form laws cut) entries (begin cut) all_ascend
-      (subst (IsPlaceOf (entry_is_before form cut) entries) is parts))
+  pub none_in_node : (bound : Bound X) (place : ℕ) → IsPlaceOf (entry_is_before form bound) entries place → place ≡ 0
+      → None ≡ find (is_before form bound) (reverse (tree_records form b n top))
+  none_in_node bound place parts is =
+      sym (ap (λ (xs : List X). find (is_before form bound) (reverse xs)) node_holds
+      ∙ last_of_none (λ (x y : X). form.order x y ≡ Less) under (entry_is_before form bound) (is_before form bound) (falls form laws bound) entries (begin bound) all_ascend
+      (subst (IsPlaceOf (entry_is_before form bound) entries) is parts))
 
   front_unwanted : (wanted : Wanted X) (place : ℕ) → IsPlaceOf (entry_is_before form wanted.from) entries place
       → All (λ (x : X). is_wanted form wanted x ≡ false) (flat_map under (take (place - 1) entries))
@@ -133,14 +133,14 @@ module _ {X : Type 0} (form : Form X) (laws : IsForm form) (b : Blocks) (top lev
       (omega (arith, parts.within)) (begin wanted.from) all_ascend (parts.below m e (omega arith) (omega arith)) k d within))
 
   -- the children from the last on that begins before the place have all that may be wanted
-  pub behind_in_node : (wanted : Wanted X) (place : ℕ) → IsPlaceOf (entry_is_before form wanted.from) entries place
+  pub after_in_node : (wanted : Wanted X) (place : ℕ) → IsPlaceOf (entry_is_before form wanted.from) entries place
       → find (is_wanted form wanted) (flat_map under (drop (place - 1) entries)) ≡ find (is_wanted form wanted) (tree_records form b n top)
-  behind_in_node wanted place parts =
+  after_in_node wanted place parts =
       let k : ℕ = place - 1 in
-      find_behind (is_wanted form wanted) (flat_map under (take k entries)) (flat_map under (drop k entries)) (front_unwanted wanted place parts)
+      find_after (is_wanted form wanted) (flat_map under (take k entries)) (flat_map under (drop k entries)) (front_unwanted wanted place parts)
       ∙ ap (find (is_wanted form wanted)) (sym (flat_map-append under (take k entries) (drop k entries)) ∙ ap (flat_map under) (take-append-drop k entries) ∙ sym node_holds)
 
-  -- what is found from a child on: what is found under it, or else behind it
+  -- what is found from a child on: what is found under it, or else after it
   next_child : (wanted : Wanted X) (k c : ℕ) (o : Option X) → k < length entries → ((d : Entry) → (let e = get_or entries k d in c ≡ e.child))
       → o ≡ find (is_wanted form wanted) (tree_records form b c level)
       → option_or o (find (is_wanted form wanted) (flat_map under (drop (k + 1) entries))) ≡ find (is_wanted form wanted) (flat_map under (drop k entries))
@@ -156,10 +156,10 @@ module _ {X : Type 0} (form : Form X) (laws : IsForm form) (b : Blocks) (top lev
       → o ≡ find (is_wanted form wanted) (flat_map under (drop k entries))
   found_under wanted k c o within child is some = some_found o _ some ∙ next_child wanted k c o within child is
 
-  pub found_behind : (wanted : Wanted X) (k c : ℕ) (o : Option X) → k < length entries → ((d : Entry) → (let e = get_or entries k d in c ≡ e.child))
+  pub found_after : (wanted : Wanted X) (k c : ℕ) (o : Option X) → k < length entries → ((d : Entry) → (let e = get_or entries k d in c ≡ e.child))
       → o ≡ find (is_wanted form wanted) (tree_records form b c level) → is_some o ≡ false
       → find (is_wanted form wanted) (flat_map under (drop (k + 1) entries)) ≡ find (is_wanted form wanted) (flat_map under (drop k entries))
-  found_behind wanted k c o within child is none = none_found o _ none ∙ next_child wanted k c o within child is
+  found_after wanted k c o within child is none = none_found o _ none ∙ next_child wanted k c o within child is
 
   -- nothing that is wanted is under a child
   pub nothing_under : (wanted : Wanted X) (k : ℕ) → k < length entries
@@ -173,7 +173,7 @@ module _ {X : Type 0} (form : Form X) (laws : IsForm form) (b : Blocks) (top lev
       → (let e = get_or entries k d in All (λ (x : X). IsUpTo (form.high_of x) (drop form.low (key_held form (tree_held form b) level e.child))) (under e))
   unfolding AreRowsOf
   high_under k d within =
-      high_all form laws (site_of b) (block_at b) (tree_held form b) (half form level) level (flat_map (named_below (tree_held form b)) node.row) _ node.rows.2
+      high_all form laws (site_of b) (block_at b) (tree_held form b) (min_records form level) level (flat_map (named_below (tree_held form b)) node.row) _ node.rows.2
       (child_in_row form laws (site_of b) (block_at b) (tree_held form b) node.row n k d node.within within)
 
   key_read : (k : ℕ) (d : Entry) → k < length entries → (let e = get_or entries k d in e.key ≡ key_in form k (block_at b n))

@@ -6,9 +6,9 @@ use Rattle.std.specs.List.{All, AllPairs, find}
 use Rattle.std.specs.Option.{option_or}
 use Rattle.std.specs.Ordering.{is_gt, is_lt, ordering_reverse}
 use Rattle.std.specs.declared.cmp.Ordering.TheVariants.{Less}
-use Rattle.xr_block.specs.declared.bound.Cut.{Cut}
+use Rattle.xr_block.specs.declared.bound.Bound.{Bound}
 use Rattle.xr_kinds.specs.Form.{Form, IsForm}
-use Rattle.xr_lookup.specs.Lookup.{FindsGreatest, FindsLeast, cut_behind, is_wanted, overlaps}
+use Rattle.xr_lookup.specs.Lookup.{FindsGreatest, FindsLeast, bound_after, is_wanted, overlaps}
 use Rattle.xr_block.specs.PartLaws.{last_append, pairs_first, pairs_right}
 
 -- none is below the first
@@ -62,8 +62,8 @@ module _ {X : Type 0} (form : Form X) (laws : IsForm form) (wanted : X → Bool)
   least_found (x ∷ xs) pairs =
       one_more_first x xs (find wanted xs) (wanted x) refl pairs (least_found xs (pairs_right (λ (a b : X). form.order a b ≡ Less) (x ∷ []) xs pairs))
 
--- a search behind a record takes what overlaps
-pub overlaps_is : {X : Type 0} (form : Form X) (r : X) (after : Option X) (cut : Cut X) → cut ≡ cut_behind after
-    → ◌≡◌ {A = X → Bool} (is_wanted form (record { from = cut; meeting = Some r })) (overlaps form r after)
-overlaps_is form r None cut is = ap (λ c. is_wanted form (record { from = c; meeting = Some r })) is
-overlaps_is form r (Some a) cut is = ap (λ c. is_wanted form (record { from = c; meeting = Some r })) is
+-- a search after a record takes what overlaps
+pub overlaps_is : {X : Type 0} (form : Form X) (r : X) (after : Option X) (bound : Bound X) → bound ≡ bound_after after
+    → ◌≡◌ {A = X → Bool} (is_wanted form (record { from = bound; meeting = Some r })) (overlaps form r after)
+overlaps_is form r None bound is = ap (λ c. is_wanted form (record { from = c; meeting = Some r })) is
+overlaps_is form r (Some a) bound is = ap (λ c. is_wanted form (record { from = c; meeting = Some r })) is

@@ -9,10 +9,10 @@ use Rattle.std.specs.Ordering.{is_gt, is_lt, nat_cmp, ordering_reverse}
 use Rattle.std.specs.declared.cmp.Ordering.{Ordering}
 use Rattle.std.specs.declared.cmp.Ordering.TheVariants.{Less, Equal, Greater}
 use Rattle.xr_kinds.specs.Form.{Form, IsForm}
-use Rattle.xr_block.specs.Rows.{AreRowsOf, Held, greater_key, greatest_key, half, key_held, key_of_entries, key_of_records, named_below}
+use Rattle.xr_block.specs.Rows.{AreRowsOf, Held, greater_key, greatest_key, min_records, key_held, key_of_entries, key_of_records, named_below}
 use Rattle.xr_block.specs.Tree.{records_under}
 use Rattle.xr_block.specs.TreeBlock.{Entry, Site}
-use Rattle.xr_block.specs.UnderLaws.{child_in_row, half_some, has_first, leaf_records, named_at, node_records}
+use Rattle.xr_block.specs.UnderLaws.{child_in_row, min_records_some, has_first, leaf_records, named_at, node_records}
 
 -- a key isn't above another
 abbrev pub IsUpTo : List ℕ → List ℕ → Type 0
@@ -85,14 +85,14 @@ module _ {X : Type 0} (form : Form X) (laws : IsForm form) (site : Site) (at : �
       let high = high_of_node (held.entries n)
       (λ k d inside.
       let e = get_or (held.entries n) k d in
-      let first = has_first form laws site at held (half form level) level below e.child (half_some form laws level) rows.2 (child k d within inside) in
+      let first = has_first form laws site at held (min_records form level) level below e.child (min_records_some form laws level) rows.2 (child k d within inside) in
       ap (λ (key : List ℕ). length (take form.low key)) (named_at form held level row n rows.1 within k d inside) ∙ ap length first.key ∙ laws.low_sized first.first) in
       let P : X → Type 0 = λ x. IsUpTo (form.high_of x) (drop form.low (key_of_entries form (held.entries n))) in
       subst (All P) (sym (node_records held level n))
       (all_parts P (λ (e : Entry). records_under held e.child level) (held.entries n)
       (λ k d inside m x under.
       let e = get_or (held.entries n) k d in
-      let own = high_all (half form level) level below e.child rows.2 (child k d within inside) m x under in
+      let own = high_all (min_records form level) level below e.child rows.2 (child k d within inside) m x under in
       upto nat_list_cmp_total (form.high_of (get_or (records_under held e.child level) m x)) (drop form.low e.key) (drop form.low (key_of_entries form (held.entries n)))
       (subst (λ (key : List ℕ). IsUpTo (form.high_of (get_or (records_under held e.child level) m x)) (drop form.low key))
       (sym (named_at form held level row n rows.1 within k d inside)) own)

@@ -31,7 +31,7 @@ mapping_inside low high (Some key) x under =
     let small_next = offset_small next.next next.valid in
     let number : big_number 8 key ≡ next.next.off = ap (big_number 8) (sym next.low) ∙ reads_alone 8 next.next.off (omega (arith, small_next)) in
     let from : big_number 8 low ≤ x.off = let h = under.from in grind (arith, nat_tests) in
-    let behind : x.off + x.len ≤ next.next.off = let h = next.less in let a = next.agrees in grind (arith, nat_tests) in
+    let after : x.off + x.len ≤ next.next.off = let h = next.less in let a = next.agrees in grind (arith, nat_tests) in
     record { from = omega arith; below = omega arith }
 
 run_small : (y : Reference) → is_reference y ≡ true → (0 < y.len) × (y.start + y.len ≤ 2048)

@@ -3,8 +3,8 @@ use Rattle.std.specs.Prelude.{◌≡◌, ◌&&◌, Bool, true, false, not, Optio
 use Rattle.std.specs.List.{All, Contains}
 use Rattle.std.specs.Option.{MatchOption}
 use Rattle.std.specs.Ordering.{is_gt, is_le, is_lt}
-use Rattle.xr_block.specs.declared.bound.Cut.{Cut}
-use Rattle.xr_block.specs.declared.bound.Cut.TheVariants.{Behind, Start}
+use Rattle.xr_block.specs.declared.bound.Bound.{Bound}
+use Rattle.xr_block.specs.declared.bound.Bound.TheVariants.{After, Start}
 use Rattle.xr_lookup.specs.declared.lookup.Wanted.{Wanted}
 use Rattle.xr_block.specs.Bounds.{is_before}
 use Rattle.xr_kinds.specs.Form.{Form}
@@ -53,7 +53,7 @@ meets_given form (Some r) x = form.meet x r
 abbrev pub is_wanted : {X : Type 0} → Form X → Wanted X → X → Bool
 is_wanted form wanted x = meets_given form wanted.meeting x && not (is_before form wanted.from x)
 
--- the place behind a record that is given
-abbrev pub cut_behind : {X : Type 0} → Option X → Cut X
-cut_behind None = Start
-cut_behind (Some r) = Behind r
+-- the place after a record that is given
+abbrev pub bound_after : {X : Type 0} → Option X → Bound X
+bound_after None = Start
+bound_after (Some r) = After r

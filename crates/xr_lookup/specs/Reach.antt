@@ -10,7 +10,7 @@ use Rattle.xr_base.specs.declared.geometry.TheConstants.{OFFSETS}
 use Rattle.xr_kinds.specs.Form.{Form}
 use Rattle.xr_kinds.specs.Spans.{span, end_of}
 
--- a valid record with a low key comes behind this one, and the two may stand in one tree
+-- a valid record with a low key comes after this one, and the two may stand in one tree
 pub record IsBeforeKey {X : Type 0} (form : Form X) (x : X) (key : List ℕ) : Type 0 where
   pub next : X
   pub valid : form.is_valid next ≡ true

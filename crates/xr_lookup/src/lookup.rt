@@ -2,7 +2,7 @@
 ghost use Rattle.std.specs.Prelude.{◌≡◌, ◌+◌, ◌<◌, None, false, IsTrue, length, slice_index_or, reverse};
 ghost use Rattle.std.specs.List.{find, slice_get};
 ghost use Rattle.xr_block.specs.Bounds.{IsPlaceOf, entry_is_before, is_before};
-ghost use Rattle.xr_lookup.specs.Lookup.{FindsGreatest, FindsLeast, cut_behind, from, is_wanted, overlaps, up_to};
+ghost use Rattle.xr_lookup.specs.Lookup.{FindsGreatest, FindsLeast, bound_after, from, is_wanted, overlaps, up_to};
 ghost use Rattle.xr_pool.specs.Overlay.{block_at};
 ghost use Rattle.xr_block.specs.Tree.{IsTreeIn, tree_records};
 ghost use Rattle.xr_block.specs.TreeBlock.{Entry, entries_in, records_in};
@@ -12,14 +12,14 @@ use crate::reach::Reach;
 use crate::steps::{
     child_count, child_of, children_before, reach_of, record_count, record_of, records_before,
 };
-use xr_block::bound::Cut;
+use xr_block::bound::Bound;
 use xr_kinds::Record;
 use xr_pool::Overlay;
 
 /// What is looked for from a place of the order on: any record, or one that meets another.
 #[derive(Clone, Copy)]
 pub(crate) struct Wanted<R> {
-    from: Cut<R>,
+    from: Bound<R>,
     meeting: Option<R>,
 }
 
@@ -36,33 +36,33 @@ impl<R: Record> Wanted<R> {
 }
 
 /// The last record of a leaf before a place of the order.
-fn last_in_leaf<R: Record>(over: &Overlay, n: u32, cut: &Cut<R>) -> Option<R>
+fn last_in_leaf<R: Record>(over: &Overlay, n: u32, bound: &Bound<R>) -> Option<R>
     requires { IsUnder R.form over.now 0 n }
-    ensures { result ≡ find (is_before R.form cut.now) (reverse (tree_records R.form over.now n 0)) }
+    ensures { result ≡ find (is_before R.form bound.now) (reverse (tree_records R.form over.now n 0)) }
 {
-    let k = records_before(over, n, cut).checked_sub(1)?;
+    let k = records_before(over, n, bound).checked_sub(1)?;
     record_of(over, n, k)
 }
 
 /// The last record under a block before a place of the order.
-fn last_before<R: Record>(over: &Overlay, n: u32, level: u32, cut: &Cut<R>) -> Option<R>
+fn last_before<R: Record>(over: &Overlay, n: u32, level: u32, bound: &Bound<R>) -> Option<R>
     requires { IsUnder R.form over.now level n }
-    ensures { result ≡ find (is_before R.form cut.now) (reverse (tree_records R.form over.now n level)) }
+    ensures { result ≡ find (is_before R.form bound.now) (reverse (tree_records R.form over.now n level)) }
 {
     if level == 0 {
-        return last_in_leaf(over, n, cut);
+        return last_in_leaf(over, n, bound);
     }
-    let k = children_before(over, n, level - 1, cut).checked_sub(1)?;
-    last_before(over, child_of::<R>(over, n, level - 1, k), level - 1, cut)
+    let k = children_before(over, n, level - 1, bound).checked_sub(1)?;
+    last_before(over, child_of::<R>(over, n, level - 1, k), level - 1, bound)
 }
 
-/// The place behind a record, if one is given.
-fn behind<R: Record>(after: Option<R>) -> Cut<R>
-    ensures { result ≡ cut_behind after }
+/// The place after a record, if one is given.
+fn bound_after<R: Record>(after: Option<R>) -> Bound<R>
+    ensures { result ≡ bound_after after }
 {
     match after {
-        None => Cut::Start,
-        Some(r) => Cut::Behind(r),
+        None => Bound::Start,
+        Some(r) => Bound::After(r),
     }
 }
 
@@ -119,7 +119,7 @@ pub fn at_most<R: Reach>(over: &Overlay, root: u32, level: u32, r: &R) -> Option
     requires { IsTreeIn R.form over.now root level }
     ensures { FindsGreatest R.form (tree_records R.form over.now root level) (up_to R.form r.now) result }
 {
-    last_before(over, root, level, &Cut::Behind(*r))
+    last_before(over, root, level, &Bound::After(*r))
 }
 
 /// The least record of a tree that isn't below another.
@@ -128,14 +128,14 @@ pub fn at_least<R: Reach>(over: &Overlay, root: u32, level: u32, r: &R) -> Optio
     ensures { FindsLeast R.form (tree_records R.form over.now root level) (from R.form r.now) result }
 {
     let wanted = Wanted {
-        from: Cut::Before(*r),
+        from: Bound::Before(*r),
         meeting: None,
     };
     first_from(over, root, level, &wanted)
 }
 
-/// The first record of a tree, in its order, that meets a valid one. Where a record is given to go on behind, it is the
-/// first behind that.
+/// The first record of a tree, in its order, that meets a valid one. Where a record is given to go on after, it is the
+/// first after that.
 pub fn overlap<R: Reach>(
     over: &Overlay,
     root: u32,
@@ -148,7 +148,7 @@ pub fn overlap<R: Reach>(
     ensures { FindsLeast R.form (tree_records R.form over.now root level) (overlaps R.form with.now after) result }
 {
     let overlapping = Wanted {
-        from: behind(after),
+        from: bound_after(after),
         meeting: Some(*with),
     };
     first_from(over, root, level, &overlapping)

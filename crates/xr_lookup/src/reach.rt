@@ -112,7 +112,7 @@ impl Reach for Reverse {
     }
 }
 
-/// Staged blocks stand behind all others, so a child that has both may have any.
+/// Staged blocks stand after all others, so a child that has both may have any.
 impl Reach for Reference {
     ghost use Rattle.std.specs.Prelude.{refl};
 
@@ -138,7 +138,7 @@ impl Reach for Reference {
     }
 }
 
-/// The offset in a key of an extent, or the end of all where it is behind that.
+/// The offset in a key of an extent, or the end of all where it is after that.
 fn offset_in(key: &[u8]) -> u32
     requires { 8 ≤ length key.now }
     ensures { result ≡ offset_in key.now }

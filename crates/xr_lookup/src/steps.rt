@@ -10,7 +10,7 @@ ghost use Rattle.xr_block.specs.TreeBlock.{Entry, count_in, entries_in, records_
 ghost use Rattle.xr_block.specs.Under.{IsUnder};
 
 use crate::reach::Reach;
-use xr_block::bound::Cut;
+use xr_block::bound::Bound;
 use xr_block::read::{child_at, count_of, high_key_at, low_key_at, record_at};
 use xr_block::search::{child_place, record_place};
 use xr_kinds::{Record, Span};
@@ -45,19 +45,24 @@ pub(crate) fn record_count<R: Record>(over: &Overlay, n: u32) -> usize
 }
 
 /// How many children of a node begin before a place of the order. The level is that of the children.
-pub(crate) fn children_before<R: Record>(over: &Overlay, n: u32, level: u32, cut: &Cut<R>) -> usize
+pub(crate) fn children_before<R: Record>(
+    over: &Overlay,
+    n: u32,
+    level: u32,
+    bound: &Bound<R>,
+) -> usize
     requires { IsUnder R.form over.now (level + 1) n }
-    ensures { IsPlaceOf (entry_is_before R.form cut.now) (entries_in R.form (block_at over.now n)) result }
+    ensures { IsPlaceOf (entry_is_before R.form bound.now) (entries_in R.form (block_at over.now n)) result }
 {
-    child_place(over.block(n), cut)
+    child_place(over.block(n), bound)
 }
 
 /// How many records of a leaf stand before a place of the order.
-pub(crate) fn records_before<R: Record>(over: &Overlay, n: u32, cut: &Cut<R>) -> usize
+pub(crate) fn records_before<R: Record>(over: &Overlay, n: u32, bound: &Bound<R>) -> usize
     requires { IsUnder R.form over.now 0 n }
-    ensures { IsPlaceOf (is_before R.form cut.now) (records_in R.form (block_at over.now n)) result }
+    ensures { IsPlaceOf (is_before R.form bound.now) (records_in R.form (block_at over.now n)) result }
 {
-    record_place(over.block(n), cut)
+    record_place(over.block(n), bound)
 }
 
 /// A record of a leaf.

@@ -54,7 +54,7 @@ fn block_in(bytes: &[u8], n: usize) -> Block
     block
 }
 
-fn cut_blocks(alloc: Global, bytes: &[u8]) -> Result<Vec<Block>, NoMemory>
+fn blocks_of_bytes(alloc: Global, bytes: &[u8]) -> Result<Vec<Block>, NoMemory>
     ensures { IfOk result (λ blocks. blocks.items ≡ blocks_in (length bytes.now / BLOCK_BYTES) bytes.now) }
 {
     let count = bytes.len() / BLOCK_BYTES;
@@ -114,7 +114,7 @@ impl Overlay {
         requires room { vec_len base ≤ BLOCK_BYTES * 8 * length free.now }
         ensures { IfOk result (λ made. made ≡ opened first base.items free.now) }
     {
-        let kept = cut_blocks(alloc, &base)?;
+        let kept = blocks_of_bytes(alloc, &base)?;
         let current = Vec::from_slice(alloc, &kept)?;
         Ok(Overlay {
             changed: vec![in alloc; false; kept.len()]?,

@@ -16,6 +16,7 @@ use Rattle.xr_space.proofs.SmallTreeLemmas.{is_low}
 use Rattle.xr_space.specs.Space.{IsSpace, IsStep, block_blocks, block_records, size_blocks, size_records, space_blocks}
 use Rattle.xr_space.specs.declared.space.Space.{Space}
 use Rattle.xr_tree.specs.declared.tree.Tree.{Tree}
+use Rattle.xr_block.specs.Trees.{IsTree, blocks_of_tree}
 
 used_block : (b : Blocks) (ns : List ℕ) (n : ℕ) → All (IsUsed (is_free b) (pool_size b)) ns → Contains ns n → is_free b n ≡ false
 used_block b ns n owned within = let mine = All-contains (IsUsed (is_free b) (pool_size b)) ns n owned within in mine.taken
@@ -50,15 +51,15 @@ module _ {Y : Type 0} (form : Form Y) (a b : Blocks) (root level : ℕ) (u v : L
   }
 
 -- the tree by block is changed
-module _ (a b : Blocks) (s : Space) (tree : Tree ByBlock) (space : IsSpace a s) (whole : IsTreeIn block_form b tree.root tree.level) (frame : ChangesOnly a (block_blocks a s) b (tree_blocks block_form b tree.root tree.level)) where
+module _ (a b : Blocks) (s : Space) (tree : Tree ByBlock) (space : IsSpace a s) (whole : IsTree block_form b tree) (frame : ChangesOnly a (block_blocks a s) b (blocks_of_tree block_form b tree)) where
   abbrev after_block : Space
   after_block = record { by_block = tree; by_size = s.by_size }
 
   abbrev away : (n : ℕ) → Contains (size_blocks a s) n → ¬ (Contains (block_blocks a s) n)
   away = λ n within inside. space.separate n inside within
 
-  sizes : Stays size_form a b s.by_size.root s.by_size.level (block_blocks b after_block)
-  sizes = other size_form a b s.by_size.root s.by_size.level (block_blocks a s) (block_blocks b after_block) space.sizes frame away
+  sizes : Stays size_form a b s.by_size.block s.by_size.level (block_blocks b after_block)
+  sizes = other size_form a b s.by_size.block s.by_size.level (block_blocks a s) (block_blocks b after_block) space.sizes frame away
 
   pub sizes_stay : size_records b after_block ≡ size_records a s
   sizes_stay = sizes.same_records
@@ -67,20 +68,20 @@ module _ (a b : Blocks) (s : Space) (tree : Tree ByBlock) (space : IsSpace a s) 
       → IsStep a s b after_block most 7
   block_step most room few = record {
     space = record { blocks = whole; sizes = sizes.tree; separate = λ n mine other. sizes.own n other mine };
-    frame = wider size_form a b s.by_size.root s.by_size.level (block_blocks a s) (block_blocks b after_block) space.sizes frame away
+    frame = wider size_form a b s.by_size.block s.by_size.level (block_blocks a s) (block_blocks b after_block) space.sizes frame away
         (space_blocks a s) (space_blocks b after_block) (joined (block_blocks a s) (size_blocks a s))
         (joined (block_blocks b after_block) (size_blocks b after_block));
     room = room;
-    changed = omega (arith, few, is_low block_form block_span by_block_runs a s.by_block.root s.by_block.level space.blocks);
+    changed = omega (arith, few, is_low block_form block_span by_block_runs a s.by_block.block s.by_block.level space.blocks);
   }
 
 -- the tree by size is changed
-module _ (a b : Blocks) (s : Space) (tree : Tree BySize) (space : IsSpace a s) (whole : IsTreeIn size_form b tree.root tree.level) (frame : ChangesOnly a (size_blocks a s) b (tree_blocks size_form b tree.root tree.level)) where
+module _ (a b : Blocks) (s : Space) (tree : Tree BySize) (space : IsSpace a s) (whole : IsTree size_form b tree) (frame : ChangesOnly a (size_blocks a s) b (blocks_of_tree size_form b tree)) where
   abbrev after_size : Space
   after_size = record { by_block = s.by_block; by_size = tree }
 
-  blocks : Stays block_form a b s.by_block.root s.by_block.level (size_blocks b after_size)
-  blocks = other block_form a b s.by_block.root s.by_block.level (size_blocks a s) (size_blocks b after_size) space.blocks frame space.separate
+  blocks : Stays block_form a b s.by_block.block s.by_block.level (size_blocks b after_size)
+  blocks = other block_form a b s.by_block.block s.by_block.level (size_blocks a s) (size_blocks b after_size) space.blocks frame space.separate
 
   pub blocks_stay : block_records b after_size ≡ block_records a s
   blocks_stay = blocks.same_records
@@ -89,11 +90,11 @@ module _ (a b : Blocks) (s : Space) (tree : Tree BySize) (space : IsSpace a s) (
       → IsStep a s b after_size most 7
   size_step most room few = record {
     space = record { blocks = blocks.tree; sizes = whole; separate = blocks.own };
-    frame = wider block_form a b s.by_block.root s.by_block.level (size_blocks a s) (size_blocks b after_size) space.blocks frame space.separate
+    frame = wider block_form a b s.by_block.block s.by_block.level (size_blocks a s) (size_blocks b after_size) space.blocks frame space.separate
         (space_blocks a s) (space_blocks b after_size) (joined_back (size_blocks a s) (block_blocks a s))
         (joined_back (size_blocks b after_size) (block_blocks b after_size));
     room = room;
-    changed = omega (arith, few, is_low size_form size_span by_size_runs a s.by_size.root s.by_size.level space.sizes);
+    changed = omega (arith, few, is_low size_form size_span by_size_runs a s.by_size.block s.by_size.level space.sizes);
   }
 
 -- one change after another

@@ -84,8 +84,8 @@ module _ (P Q : Span → Type 0) (old new : Span) (runs : AreRuns P) (held : P o
   more = gained Others Q new swap n
 
   -- the front of a run is no longer free, and the rest is
-  pub cut : (front : Span) → front.start ≡ old.start → new.start ≡ end_of front → end_of new ≡ end_of old → Holds Q n ↔ (Holds P n × ¬ (IsIn front n))
-  cut front starts meets ends = (
+  pub bound : (front : Span) → front.start ≡ old.start → new.start ≡ end_of front → end_of new ≡ end_of old → Holds Q n ↔ (Holds P n × ¬ (IsIn front n))
+  bound front starts meets ends = (
     (λ found. ⊎_elim
         (λ (kept : Holds Others n). let before = less.0 kept in
         (before.0, (λ (taken : IsIn front n). before.1 (record { from = omega (arith, taken.from); below = omega (arith, taken.below) }))))

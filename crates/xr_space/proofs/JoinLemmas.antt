@@ -95,7 +95,7 @@ loose_left free run l runs good taken right held ends = record {
   only = λ x within touches. ap Some (same_end free l x runs held within (grind (arith, nat_tests, right x within)));
 }
 
--- the run behind is taken out, and given back with the run
+-- the run after is taken out, and given back with the run
 module _ (free less : Span → Type 0) (run l r : Span) (runs : AreRuns free) (still : AreRuns less) (good : is_group_run run ≡ true) (taken : (n : ℕ) → IsIn run n → ¬ (Holds free n)) (left : free l) (ends : end_of l ≡ run.start) (right : free r) (starts : r.start ≡ end_of run) (out : Loses free r less) where
   abbrev Both : Span
   Both = span run.start (run.len + r.len)

@@ -7,10 +7,10 @@ use Rattle.std.specs.List.{concat, flat_map}
 use Rattle.xr_kinds.specs.declared.span.Span.{Span}
 use Rattle.xr_kinds.specs.Form.{Form}
 use Rattle.xr_pool.specs.Overlay.{Blocks, block_at}
-use Rattle.xr_block.specs.Rows.{AreRowsOf, Held, half, leaves_from, named_below, rows_from}
+use Rattle.xr_block.specs.Rows.{AreRowsOf, Held, min_records, leaves_from, named_below, rows_from}
 use Rattle.xr_block.specs.Tree.{IsTreeIn, site_of, tree_held, tree_records}
 use Rattle.xr_block.specs.TreeBlock.{Entry, entries_in}
-use Rattle.xr_change.specs.Ways.{blocks_wanted, child_of, full_on_way, is_full, way_place}
+use Rattle.xr_change.specs.Paths.{blocks_wanted, child_of, full_on_path, is_full, path_index}
 use Rattle.xr_space.proofs.RunRecordLemmas.{IsRunForm, few_runs}
 use Rattle.xr_tree.proofs.GrowthLemmas.{one_at_most}
 use Rattle.xr_tree.specs.BoundLaws.{few_blocks, nodes_hold}
@@ -32,7 +32,7 @@ module _ {X : Type 0} (form : Form X) (span_of : X → Span) (runs : IsRunForm f
 
   -- two levels of nodes would have too many records
   not_high : (level : ℕ) → IsTreeIn form b root (suc (suc level)) → ⊥
-  unfolding AreRowsOf leaves_from rows_from half
+  unfolding AreRowsOf leaves_from rows_from min_records
   not_high level tree =
       let held = tree_held form b in
       let row : List ℕ = flat_map (named_below held) (root ∷ []) in
@@ -54,7 +54,7 @@ module _ {X : Type 0} (form : Form X) (span_of : X → Span) (runs : IsRunForm f
 
   -- a root over leaves isn't full
   root_has_room : IsTreeIn form b root 1 → is_full form b 1 root ≡ false
-  unfolding AreRowsOf leaves_from half
+  unfolding AreRowsOf leaves_from min_records
   root_has_room tree =
       let held = tree_held form b in
       let row : List ℕ = flat_map (named_below held) (root ∷ []) in
@@ -65,9 +65,9 @@ module _ {X : Type 0} (form : Form X) (span_of : X → Span) (runs : IsRunForm f
       ne_eqb (length (entries_in form (block_at b root))) form.node_max (λ full. absurd (omega (arith, few, few_records 1 tree, long, full, runs.node)))
 
   pub few_wanted : (level : ℕ) (r : X) → IsTreeIn form b root level → blocks_wanted form b level root r ≤ 2
-  unfolding full_on_way
+  unfolding full_on_path
   few_wanted zero r tree = omega (arith, one_at_most (is_full form b 0 root))
   few_wanted (suc zero) r tree =
-      let child : ℕ = child_of form b root (way_place form r (entries_in form (block_at b root))) in
+      let child : ℕ = child_of form b root (path_index form r (entries_in form (block_at b root))) in
       rw (root_has_room tree) (omega (arith, one_at_most (is_full form b 0 child)))
   few_wanted (suc (suc level)) r tree = absurd (not_high level tree)

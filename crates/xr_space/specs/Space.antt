@@ -10,69 +10,69 @@ use Rattle.xr_block.specs.Frame.{ChangesOnly}
 use Rattle.xr_kinds.specs.FreeRuns.{block_form, by_block, by_size, size_form, size_order}
 use Rattle.xr_pool.specs.Overlay.{Blocks, changed_blocks, free_count}
 use Rattle.xr_kinds.specs.Spans.{IsIn, is_group_run, touch}
-use Rattle.xr_block.specs.Tree.{IsTreeIn, tree_blocks, tree_records}
 use Rattle.xr_space.specs.declared.space.Space.{Space}
+use Rattle.xr_block.specs.Trees.{IsTree, blocks_of_tree, records_of_tree}
 
 -- what the two trees hold, and the blocks in which they stand
 abbrev pub block_records : Blocks → Space → List ByBlock
-block_records b s = tree_records block_form b s.by_block.root s.by_block.level
+block_records b s = records_of_tree block_form b s.by_block
 
 abbrev pub size_records : Blocks → Space → List BySize
-size_records b s = tree_records size_form b s.by_size.root s.by_size.level
+size_records b s = records_of_tree size_form b s.by_size
 
 abbrev pub block_blocks : Blocks → Space → List ℕ
-block_blocks b s = tree_blocks block_form b s.by_block.root s.by_block.level
+block_blocks b s = blocks_of_tree block_form b s.by_block
 
 abbrev pub size_blocks : Blocks → Space → List ℕ
-size_blocks b s = tree_blocks size_form b s.by_size.root s.by_size.level
+size_blocks b s = blocks_of_tree size_form b s.by_size
 
 abbrev pub space_blocks : Blocks → Space → List ℕ
 space_blocks b s = block_blocks b s ++ size_blocks b s
 
 -- two trees that share no block
 pub record IsSpace (b : Blocks) (s : Space) : Type 0 where
-  pub blocks : IsTreeIn block_form b s.by_block.root s.by_block.level
-  pub sizes : IsTreeIn size_form b s.by_size.root s.by_size.level
+  pub blocks : IsTree block_form b s.by_block
+  pub sizes : IsTree size_form b s.by_size
   pub separate : (n : ℕ) → Contains (block_blocks b s) n → ¬ (Contains (size_blocks b s) n)
 
 -- a run is one of the free runs, by the one tree and by the other
 abbrev pub IsFreeRun : Blocks → Space → Span → Type 0
 IsFreeRun b s run = Contains (block_records b s) (by_block run)
 
-abbrev pub IsSized : Blocks → Space → Span → Type 0
-IsSized b s run = Contains (size_records b s) (by_size run)
+abbrev pub IsRunBySize : Blocks → Space → Span → Type 0
+IsRunBySize b s run = Contains (size_records b s) (by_size run)
 
 -- each tree holds the runs of the other
 pub record ArePaired (b : Blocks) (s : Space) : Type 0 where
-  pub sized : (run : Span) → IsFreeRun b s run → IsSized b s run
-  pub free : (run : Span) → IsSized b s run → IsFreeRun b s run
+  pub sized : (run : Span) → IsFreeRun b s run → IsRunBySize b s run
+  pub free : (run : Span) → IsRunBySize b s run → IsFreeRun b s run
 
 abbrev pub IsFreeBlock : Blocks → Space → ℕ → Type 0
 IsFreeBlock b s n = (run : Span) × IsFreeRun b s run × IsIn run n
 
 -- the free run with the lowest start
-pub record IsFirst (b : Blocks) (s : Space) (whole : Span) : Type 0 where
+pub record IsLowest (b : Blocks) (s : Space) (whole : Span) : Type 0 where
   pub held : IsFreeRun b s whole
   pub lowest : (run : Span) → IsFreeRun b s run → whole.start ≤ run.start
 
--- of the runs that begin at a place or behind it the first, by block
+-- of the runs that begin at a place or after it the first, by block
 pub record IsNextFree (b : Blocks) (s : Space) (place : ℕ) (run : Span) : Type 0 where
   pub held : IsFreeRun b s run
   pub good : is_group_run run ≡ true
-  pub behind : place ≤ run.start
+  pub after : place ≤ run.start
   pub first : (other : Span) → IsFreeRun b s other → place ≤ other.start → run.start ≤ other.start
 
 -- of the runs that aren't below another the first, by size
 pub record IsNextSized (b : Blocks) (s : Space) (from run : Span) : Type 0 where
-  pub held : IsSized b s run
+  pub held : IsRunBySize b s run
   pub good : is_group_run run ≡ true
-  pub behind : is_lt (size_order run from) ≡ false
-  pub first : (other : Span) → IsSized b s other → is_lt (size_order other from) ≡ false → is_lt (size_order other run) ≡ false
+  pub after : is_lt (size_order run from) ≡ false
+  pub first : (other : Span) → IsRunBySize b s other → is_lt (size_order other from) ≡ false → is_lt (size_order other run) ≡ false
 
 -- the first blocks of the free run with the lowest start, as many as are needed or as it has
-pub record IsFront (b : Blocks) (s : Space) (need : ℕ) (run : Span) : Type 0 where
+pub record IsFrontOfLowest (b : Blocks) (s : Space) (need : ℕ) (run : Span) : Type 0 where
   pub whole : Span
-  pub first : IsFirst b s whole
+  pub first : IsLowest b s whole
   pub start : run.start ≡ whole.start
   pub len : run.len ≡ min need whole.len
 

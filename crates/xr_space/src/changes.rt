@@ -3,7 +3,7 @@ ghost use Rattle.std.specs.Prelude.{◌≡◌, ◌≢◌, ◌≤◌, true, false
 ghost use Rattle.xr_kinds.specs.declared.span.Span.{Span};
 ghost use Rattle.xr_pool.specs.Overlay.{free_count};
 ghost use Rattle.xr_kinds.specs.Spans.{apart, is_group_run};
-ghost use Rattle.xr_space.specs.Space.{ArePaired, Gains, IsFreeRun, IsSized, IsSpace, IsStep, Loses, Swaps, block_records, size_records};
+ghost use Rattle.xr_space.specs.Space.{ArePaired, Gains, IsFreeRun, IsSpace, IsStep, Loses, Swaps, block_records, size_records, IsRunBySize};
 
 use crate::space::Space;
 use xr_kinds::{ByBlock, BySize, Span};
@@ -64,10 +64,10 @@ impl Space {
     fn insert_by_size(&mut self, over: &mut Overlay, run: Span)
         requires space { IsSpace over.old self.old }
         requires good { is_group_run run ≡ true }
-        requires fits { (other : Span) → IsSized over.old self.old other → apart other run ≡ true }
+        requires fits { (other : Span) → IsRunBySize over.old self.old other → apart other run ≡ true }
         requires room { 2 ≤ free_count over.old }
         ensures step { IsStep over.old self.old over.new self.new 2 7 }
-        ensures set { Gains (IsSized over.old self.old) run (IsSized over.new self.new) }
+        ensures set { Gains (IsRunBySize over.old self.old) run (IsRunBySize over.new self.new) }
         ensures blocks { block_records over.new self.new ≡ block_records over.old self.old }
     {
         let record = BySize {
@@ -79,9 +79,9 @@ impl Space {
 
     fn remove_by_size(&mut self, over: &mut Overlay, run: Span)
         requires space { IsSpace over.old self.old }
-        requires held { IsSized over.old self.old run }
+        requires held { IsRunBySize over.old self.old run }
         ensures step { IsStep over.old self.old over.new self.new 0 7 }
-        ensures set { Loses (IsSized over.old self.old) run (IsSized over.new self.new) }
+        ensures set { Loses (IsRunBySize over.old self.old) run (IsRunBySize over.new self.new) }
         ensures blocks { block_records over.new self.new ≡ block_records over.old self.old }
     {
         let record = BySize {

@@ -3,7 +3,7 @@ ghost use Rattle.std.specs.Prelude.{◌≡◌, ◌<◌, ◌↔◌, true, false, 
 ghost use Rattle.std.specs.Ordering.{is_lt};
 ghost use Rattle.xr_kinds.specs.declared.span.Span.{Span};
 ghost use Rattle.xr_kinds.specs.FreeRuns.{size_order};
-ghost use Rattle.xr_space.specs.Space.{ArePaired, IsFreeRun, IsNextFree, IsNextSized, IsSized, IsSpace};
+ghost use Rattle.xr_space.specs.Space.{ArePaired, IsFreeRun, IsNextFree, IsNextSized, IsSpace, IsRunBySize};
 
 use crate::space::Space;
 use xr_kinds::{ByBlock, BySize, Span};
@@ -26,7 +26,7 @@ impl Space {
 
     fn holds_by_size(&self, over: &Overlay, run: Span) -> bool
         requires { IsSpace over.now self.now }
-        ensures { IsTrue result ↔ IsSized over.now self.now run }
+        ensures { IsTrue result ↔ IsRunBySize over.now self.now run }
     {
         let record = BySize {
             start: run.start,
@@ -38,7 +38,7 @@ impl Space {
         }
     }
 
-    /// The first run by block that begins at a place or behind it.
+    /// The first run by block that begins at a place or after it.
     fn next_by_block(&self, over: &Overlay, place: u32) -> Option<Span>
         requires { IsSpace over.now self.now }
         ensures none { IsNone result → (run : Span) → IsFreeRun over.now self.now run → run.start < place }
@@ -55,7 +55,7 @@ impl Space {
     /// The first run by size that isn't below another.
     fn next_by_size(&self, over: &Overlay, from: Span) -> Option<Span>
         requires { IsSpace over.now self.now }
-        ensures none { IsNone result → (run : Span) → IsSized over.now self.now run → is_lt (size_order run from) ≡ true }
+        ensures none { IsNone result → (run : Span) → IsRunBySize over.now self.now run → is_lt (size_order run from) ≡ true }
         ensures next { IfSome result (λ run. IsNextSized over.now self.now from run) }
     {
         let from = BySize {
@@ -69,7 +69,7 @@ impl Space {
     /// Whether each run by block stands also in the tree by size.
     fn are_sized(&self, over: &Overlay) -> bool
         requires { IsSpace over.now self.now }
-        ensures { IsTrue result ↔ ((run : Span) → IsFreeRun over.now self.now run → IsSized over.now self.now run) }
+        ensures { IsTrue result ↔ ((run : Span) → IsFreeRun over.now self.now run → IsRunBySize over.now self.now run) }
     {
         let mut place = 0;
         while let Some(run) = self.next_by_block(over, place) {
@@ -84,7 +84,7 @@ impl Space {
     /// Whether each run by size stands also in the tree by block.
     fn are_free(&self, over: &Overlay) -> bool
         requires { IsSpace over.now self.now }
-        ensures { IsTrue result ↔ ((run : Span) → IsSized over.now self.now run → IsFreeRun over.now self.now run) }
+        ensures { IsTrue result ↔ ((run : Span) → IsRunBySize over.now self.now run → IsFreeRun over.now self.now run) }
     {
         let mut from = Span { start: 0, len: 0 };
         while let Some(run) = self.next_by_size(over, from) {

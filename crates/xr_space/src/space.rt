@@ -4,14 +4,14 @@ ghost use Rattle.xr_kinds.specs.declared.span.Span.{Span};
 ghost use Rattle.xr_block.specs.Frame.{ChangesOnly};
 ghost use Rattle.xr_pool.specs.Overlay.{changed_blocks, free_count};
 ghost use Rattle.xr_kinds.specs.Spans.{IsIn, end_of, is_group_run, touch};
-ghost use Rattle.xr_space.specs.Space.{ArePaired, IsFirst, IsFreeBlock, IsFreeRun, IsFront, IsLoose, IsSpace, IsStep, space_blocks};
+ghost use Rattle.xr_space.specs.Space.{ArePaired, IsFreeBlock, IsFreeRun, IsLoose, IsSpace, IsStep, space_blocks, IsLowest, IsFrontOfLowest};
 
 use xr_kinds::{ByBlock, BySize, Span};
 use xr_pool::Overlay;
 use xr_tree::Tree;
 
 /// The runs of free blocks of a group, in the order of their blocks and in that of their lengths.
-#[derive(Drop)]
+#[derive(Clone, Copy)]
 pub struct Space {
     pub by_block: Tree<ByBlock>,
     pub by_size: Tree<BySize>,
@@ -22,7 +22,7 @@ impl Space {
     fn first_run(&self, over: &Overlay) -> Option<Span>
         requires { IsSpace over.now self.now }
         ensures none { IsNone result → (run : Span) → ¬ (IsFreeRun over.now self.now run) }
-        ensures first { IfSome result (λ run. IsFirst over.now self.now run) }
+        ensures first { IfSome result (λ run. IsLowest over.now self.now run) }
     {
         let ByBlock { start, len } = self.by_block.at_least(over, &ByBlock { start: 0, len: 0 })?;
         Some(Span { start, len })
@@ -63,16 +63,16 @@ impl Space {
     }
 
     /// Takes the front of the first free run.
-    fn cut_front(&mut self, over: &mut Overlay, whole: Span, need: u32) -> Span
+    fn take_front(&mut self, over: &mut Overlay, whole: Span, need: u32) -> Span
         requires space { IsSpace over.old self.old }
         requires paired { ArePaired over.old self.old }
-        requires first { IsFirst over.old self.old whole }
+        requires first { IsLowest over.old self.old whole }
         requires some { 1 ≤ need }
         requires room { 2 ≤ free_count over.old }
         ensures step { IsStep over.old self.old over.new self.new 2 21 }
         ensures paired { ArePaired over.new self.new }
         ensures good { is_group_run result ≡ true }
-        ensures front { IsFront over.old self.old need result }
+        ensures front { IsFrontOfLowest over.old self.old need result }
         ensures taken { (n : ℕ) → IsFreeBlock over.new self.new n ↔ (IsFreeBlock over.old self.old n × ¬ (IsIn result n)) }
     {
         let len = need.min(whole.len);
@@ -105,7 +105,7 @@ impl Space {
         ensures same_blocks { IsNone result → over.new ≡ over.old }
         ensures same_trees { IsNone result → self.new ≡ self.old }
         ensures good { IfSome result (λ run. is_group_run run ≡ true) }
-        ensures front { IfSome result (λ run. IsFront over.old self.old need run) }
+        ensures front { IfSome result (λ run. IsFrontOfLowest over.old self.old need run) }
         ensures taken { IfSome result (λ run. (n : ℕ) → IsFreeBlock over.new self.new n ↔ (IsFreeBlock over.old self.old n × ¬ (IsIn run n))) }
         ensures frame { ChangesOnly over.old (space_blocks over.old self.old) over.new (space_blocks over.new self.new) }
         ensures room { free_count over.old ≤ free_count over.new + 2 }
@@ -113,7 +113,7 @@ impl Space {
     {
         match self.first_run(over) {
             None => None,
-            Some(whole) => Some(self.cut_front(over, whole, need)),
+            Some(whole) => Some(self.take_front(over, whole, need)),
         }
     }
 

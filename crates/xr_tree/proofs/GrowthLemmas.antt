@@ -11,7 +11,7 @@ use Rattle.xr_pool.specs.Overlay.{Blocks, block_at, free_count}
 use Rattle.xr_block.specs.Tree.{AreRecords, IsTreeIn, tree_records}
 use Rattle.xr_block.specs.TreeBlock.{entries_in}
 use Rattle.xr_change.specs.Sets.{inserted, removed, replaced}
-use Rattle.xr_change.specs.Ways.{blocks_wanted, child_of, full_on_way, is_full, way_place}
+use Rattle.xr_change.specs.Paths.{blocks_wanted, child_of, full_on_path, is_full, path_index}
 use Rattle.xr_tree.proofs.SetMemberLemmas.{above, all_in, inserted_only, inserted_pairs, removed_only, replaced_only, replaced_pairs}
 use Rattle.xr_tree.specs.Growth.{IsBeside, IsFamily, IsGrown, MayCome}
 
@@ -20,11 +20,11 @@ one_at_most true = omega arith
 one_at_most false = omega arith
 
 module _ {X : Type 0} (form : Form X) (b : Blocks) (r : X) where
-  full_few : (level n : ℕ) → full_on_way form b level n r ≤ level + 1
-  unfolding full_on_way
+  full_few : (level n : ℕ) → full_on_path form b level n r ≤ level + 1
+  unfolding full_on_path
   full_few zero n = omega (arith, one_at_most (is_full form b 0 n))
   full_few (suc level) n =
-      let child : ℕ = child_of form b n (way_place form r (entries_in form (block_at b n))) in
+      let child : ℕ = child_of form b n (path_index form r (entries_in form (block_at b n))) in
       omega (arith, one_at_most (is_full form b (suc level) n), full_few level child)
 
   -- an insertion takes at most a block for each level, and one more where the root is full
@@ -108,7 +108,7 @@ module _ {X : Type 0} (form : Form X) (laws : IsForm form) (family : X → Bool)
         (all_replaced form.order laws.total old (λ (x : X). form.is_valid x ≡ true) held rules.valid rules.ascend new valid)
         (all_replaced form.order laws.total old (λ (x : X). family x ≡ true) held known.members rules.ascend new member)
         (replaced_pairs form.order laws.total old new (λ (x y : X). form.order x y ≡ Less) held rules.ascend rules.ascend beside.held
-        beside.below beside.behind)
+        beside.below beside.after)
         (omega (arith, rules.few, replaced_long form.order old new held))
 
   module _ (after : Blocks) (new_root new_level : ℕ) (tree : IsTreeIn form after new_root new_level) where

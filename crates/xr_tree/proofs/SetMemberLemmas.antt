@@ -80,7 +80,7 @@ module _ {X : Type 0} (order : X → X → Ordering) (total : IsTotalOrder order
   not_tied : (x y : X) → order x y ≡ Less → is_eq (order y x) ≡ false
   not_tied x y less = ap is_eq (more_than x y less)
 
-  -- a record behind none that isn't tied with it is below it
+  -- a record after none that isn't tied with it is below it
   pub above : (x r : X) → is_lt (order x r) ≡ false → is_eq (order x r) ≡ false → order r x ≡ Less
   above x r low tied = let greater = lifted (order x r) low tied in let back = total.antisymm r x in cc
 
@@ -98,7 +98,7 @@ module _ {X : Type 0} (order : X → X → Ordering) (total : IsTotalOrder order
   tied_differ x y untied same =
       let lie : is_eq Equal ≡ false = ap is_eq (sym (tied_itself total y)) ∙ ap (λ (z : X). is_eq (order z y)) (sym same) ∙ untied in cc
 
-  -- none behind a tied record is tied
+  -- none after a tied record is tied
   untied_behind : (x : X) (xs : List X) (y r : X) → Ascend (x ∷ xs) → Contains xs y → is_eq (order x r) ≡ true → is_eq (order y r) ≡ false
   untied_behind x xs y r ascend within tied =
       not_tied r y (sym (total.congr x r y (is_equal (order x r) tied)) ∙ head_less x xs y ascend within)
@@ -139,7 +139,7 @@ module _ {X : Type 0} (order : X → X → Ordering) (total : IsTotalOrder order
           | false ↦ λ found. ⊎_elim (λ (same : r ≡ y). inl (sym same)) (λ (rest : Contains (x ∷ xs) y). inr rest) (in_cases r (x ∷ xs) y found)
         ]) within
 
-    -- behind a record that isn't below, none is
+    -- after a record that isn't below, none is
     still_behind : (x : X) (xs : List X) (y : X) → Ascend (x ∷ xs) → Contains (x ∷ xs) y → is_lt (order x r) ≡ false → is_lt (order y r) ≡ false
     still_behind x xs y ascend within test = ⊎_elim
         (λ (same : x ≡ y). ap (λ (z : X). is_lt (order z r)) (sym same) ∙ test)
@@ -150,8 +150,8 @@ module _ {X : Type 0} (order : X → X → Ordering) (total : IsTotalOrder order
     pub inserted_pairs : (P : X → X → Type 0) (xs : List X) → AllPairs P xs → Ascend xs → ((x : X) → Contains xs x → order x r ≡ Less → P x r)
         → ((x : X) → Contains xs x → is_lt (order x r) ≡ false → P r x) → AllPairs P (inserted order r xs)
     unfolding inserted
-    inserted_pairs P [] pairs ascend below behind = AllPairs-cons P r [] (λ k d within. absurd (omega (arith, within))) pairs
-    inserted_pairs P (x ∷ xs) pairs ascend below behind =
+    inserted_pairs P [] pairs ascend below after = AllPairs-cons P r [] (λ k d within. absurd (omega (arith, within))) pairs
+    inserted_pairs P (x ∷ xs) pairs ascend below after =
         (elim (is_lt (order x r)) as (λ t. is_lt (order x r) ≡ t → AllPairs P (if t then x ∷ inserted order r xs else r ∷ x ∷ xs)) [
           | true ↦ λ test. AllPairs-cons P x (inserted order r xs)
               (all_in (P x) (inserted order r xs) (λ y within. ⊎_elim
@@ -159,9 +159,9 @@ module _ {X : Type 0} (order : X → X → Ordering) (total : IsTotalOrder order
               (λ (old : Contains xs y). head_pair P x xs y pairs old)
               (inserted_only xs y within)))
               (inserted_pairs P xs (rest_pairs P x xs pairs) (rest_pairs (λ (a b : X). order a b ≡ Less) x xs ascend)
-              (λ y within less. below y (later_in x xs y within) less) (λ y within low. behind y (later_in x xs y within) low))
+              (λ y within less. below y (later_in x xs y within) less) (λ y within low. after y (later_in x xs y within) low))
           | false ↦ λ test. AllPairs-cons P r (x ∷ xs)
-              (all_in (P r) (x ∷ xs) (λ y within. behind y within (still_behind x xs y ascend within test)))
+              (all_in (P r) (x ∷ xs) (λ y within. after y within (still_behind x xs y ascend within test)))
               pairs
         ]) refl
 
@@ -245,11 +245,11 @@ module _ {X : Type 0} (order : X → X → Ordering) (total : IsTotalOrder order
     pub replaced_pairs : (P : X → X → Type 0) (xs : List X) → AllPairs P xs → Ascend xs → Contains xs old → ((x : X) → Contains xs x → order x old ≡ Less → P x new)
         → ((x : X) → Contains xs x → order old x ≡ Less → P new x) → AllPairs P (replaced order old new xs)
     unfolding replaced
-    replaced_pairs P [] pairs ascend held below behind = absurd (omega (arith, held.1))
-    replaced_pairs P (x ∷ xs) pairs ascend held below behind =
+    replaced_pairs P [] pairs ascend held below after = absurd (omega (arith, held.1))
+    replaced_pairs P (x ∷ xs) pairs ascend held below after =
         (elim (is_eq (order x old)) as (λ t. is_eq (order x old) ≡ t → AllPairs P (if t then new ∷ xs else x ∷ replaced order old new xs)) [
           | true ↦ λ test. AllPairs-cons P new xs
-              (all_in (P new) xs (λ y within. behind y (later_in x xs y within)
+              (all_in (P new) xs (λ y within. after y (later_in x xs y within)
               (sym (total.congr x old y (is_equal (order x old) test)) ∙ head_less x xs y ascend within)))
               (rest_pairs P x xs pairs)
           | false ↦ λ test. ⊎_elim
@@ -260,6 +260,6 @@ module _ {X : Type 0} (order : X → X → Ordering) (total : IsTotalOrder order
               (λ (more : (y ≢ old) × Contains xs y). head_pair P x xs y pairs more.1)
               (replaced_only xs y (rest_pairs (λ (a b : X). order a b ≡ Less) x xs ascend) within)))
               (replaced_pairs P xs (rest_pairs P x xs pairs) (rest_pairs (λ (a b : X). order a b ≡ Less) x xs ascend) rest
-              (λ y within less. below y (later_in x xs y within) less) (λ y within less. behind y (later_in x xs y within) less)))
+              (λ y within less. below y (later_in x xs y within) less) (λ y within less. after y (later_in x xs y within) less)))
               (in_cases x xs old held)
         ]) refl

@@ -1,4 +1,4 @@
--- How many blocks a tree can have: each block but the root is half full, so few records have few blocks.
+-- How many blocks a tree can have: each block but the root is min_records full, so few records have few blocks.
 use Rattle.std.proofs.Common.{◌≡◌, ℕ, zero, suc, ◌+◌, ◌-◌, ◌*◌, ◌/◌, ◌<◌, ◌≤◌, true, Option, Some, None, List, [], ◌∷◌, ◌++◌, length, get_or, refl, arith}
 use Rattle.std.proofs.lemmas.Bool.Decides.{nat_tests}
 use Rattle.std.proofs.lemmas.List.{append-nil, length-append, length-map}
@@ -12,7 +12,7 @@ use Rattle.xr_kinds.specs.MappingLaws.{is_mapping_form}
 use Rattle.xr_pool.specs.Overlay.{Blocks, block_at}
 use Rattle.xr_kinds.specs.Reverse.{reverse_form}
 use Rattle.xr_kinds.specs.ReverseLaws.{is_reverse_form}
-use Rattle.xr_block.specs.Rows.{AreLinked, AreRowsOf, Held, IsWholeLeaf, IsWholeNode, first_of, half, leaves_from, named_below, rows_from}
+use Rattle.xr_block.specs.Rows.{AreLinked, AreRowsOf, Held, IsWholeLeaf, IsWholeNode, first_of, min_records, leaves_from, named_below, rows_from}
 use Rattle.xr_block.specs.Tree.{IsTreeIn, site_of, tree_blocks, tree_held, tree_records}
 use Rattle.xr_block.specs.TreeBlock.{Entry, Place, Site}
 
@@ -48,12 +48,12 @@ module _ {X : Type 0} (form : Form X) (laws : IsForm form) (site : Site) (at : �
       row_holds (IsWholeNode form site held least) at (named_below held) least (suc level) None row None
       (λ place whole. omega (arith, whole.least_items, length-map (held.entries place.number) (λ (e : Entry). e.child)))
 
-  -- each row is at most as long as the part of the row below that half full nodes leave of it
-  pub few_blocks : (level : ℕ) (row : List ℕ) → AreRowsOf form site at held (half form level) level row
+  -- each row is at most as long as the part of the row below that min_records full nodes leave of it
+  pub few_blocks : (level : ℕ) (row : List ℕ) → AreRowsOf form site at held (min_records form level) level row
       → (let leaves = leaves_from held level row in
       (length leaves * (form.leaf_max / 2) ≤ length (flat_map held.records leaves))
       × (length (concat (rows_from held level row)) * (form.node_max / 2 - 1) + length row ≤ length leaves * (form.node_max / 2)))
-  unfolding AreRowsOf half leaves_from rows_from
+  unfolding AreRowsOf min_records leaves_from rows_from
   few_blocks zero row rows = (
     leaves_hold (form.leaf_max / 2) row rows,
     rw (append-nil row) (omega (arith, less_one (length row) (form.node_max / 2) (omega (arith, laws.node_some)))),

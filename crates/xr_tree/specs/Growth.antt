@@ -28,4 +28,4 @@ pub record MayCome {X : Type 0} (form : Form X) (family : X → Bool) (records :
 pub record IsBeside {X : Type 0} (form : Form X) (records : List X) (old new : X) : Type 0 where
   pub held : Contains records old
   pub below : (x : X) → Contains records x → form.order x old ≡ Less → form.order x new ≡ Less
-  pub behind : (x : X) → Contains records x → form.order old x ≡ Less → form.order new x ≡ Less
+  pub after : (x : X) → Contains records x → form.order old x ≡ Less → form.order new x ≡ Less

@@ -1,4 +1,5 @@
 pub mod BoundLaws
 pub mod Bounds
+pub mod Calls
 pub mod FamilyLaws
 pub mod Growth

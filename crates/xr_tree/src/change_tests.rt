@@ -98,7 +98,7 @@ fn come_and_go<R: Family + Kept + Reach + PartialEq>(
     Ok(())
 }
 
-/// The place at which the i-th of some stands when each is so far behind the one before it, going round.
+/// The place at which the i-th of some stands when each is so far after the one before it, going round.
 fn dealt(rt: &impl Abort, i: u32, count: u32, step: u32) -> u32 {
     assert!(rt; i < count && count < 65536 && step < 65536);
     i * step % count

@@ -4,8 +4,8 @@ ghost use Rattle.std.specs.Prelude.{◌≡◌, ℕ, ◌≤◌, Bool, false, IfSo
 ghost use Rattle.std.specs.List.{All};
 ghost use Rattle.std.specs.Ordering.{is_eq};
 ghost use Rattle.xr_pool.specs.Overlay.{free_count};
-ghost use Rattle.xr_block.specs.Tree.{IsTreeIn, tree_records};
 ghost use Rattle.xr_tree.specs.Growth.{IsBeside, IsGrown, MayCome};
+ghost use Rattle.xr_block.specs.Trees.{IsTree, records_of_tree};
 
 use crate::{ByBlock, BySize, Kept, Mapping, Overlay, Reach, Record, Reference, Reverse, Tree};
 use std::cmp::Ordering;
@@ -116,16 +116,16 @@ fn spare(over: &Overlay, known: u64, wanted: u64) -> u64
 
 /// Whether the tree has no record, neither up to one nor from it on.
 fn is_empty<R: Family + Reach>(over: &Overlay, tree: &Tree<R>, any: &R) -> bool
-    requires { IsTreeIn R.form over.now tree.now.root tree.now.level }
-    ensures { IsTrue result → IsGrown R.form R.family over.now tree.now.root tree.now.level 0 0 }
+    requires { IsTree R.form over.now tree.now }
+    ensures { IsTrue result → IsGrown R.form R.family over.now tree.now.block tree.now.level 0 0 }
 {
     tree.at_most(over, any).is_none() && tree.at_least(over, any).is_none()
 }
 
 /// Whether no record has the place of this one.
 fn misses<R: Reach>(over: &Overlay, tree: &Tree<R>, r: &R) -> bool
-    requires { IsTreeIn R.form over.now tree.now.root tree.now.level }
-    ensures { IsTrue result → All (λ x. is_eq (R.form.order x r.now) ≡ false) (tree_records R.form over.now tree.now.root tree.now.level) }
+    requires { IsTree R.form over.now tree.now }
+    ensures { IsTrue result → All (λ x. is_eq (R.form.order x r.now) ≡ false) (records_of_tree R.form over.now tree.now) }
 {
     match tree.at_most(over, r) {
         Some(found) => found.compare(r) != Ordering::Equal,
@@ -135,17 +135,17 @@ fn misses<R: Reach>(over: &Overlay, tree: &Tree<R>, r: &R) -> bool
 
 /// Whether a record may be put in.
 fn may_come<R: Family + Reach>(over: &Overlay, tree: &Tree<R>, r: &R) -> bool
-    requires { IsTreeIn R.form over.now tree.now.root tree.now.level }
-    ensures { IsTrue result → MayCome R.form R.family (tree_records R.form over.now tree.now.root tree.now.level) r.now }
+    requires { IsTree R.form over.now tree.now }
+    ensures { IsTrue result → MayCome R.form R.family (records_of_tree R.form over.now tree.now) r.now }
 {
     r.valid() && r.is_member() && misses(over, tree, r)
 }
 
 /// A record in whose place another may stand: the one before that place, if it is the one that is meant, or the one
-/// behind.
+/// after.
 fn beside<R: Reach + PartialEq>(over: &Overlay, tree: &Tree<R>, old: &R, new: &R) -> Option<R>
-    requires { IsTreeIn R.form over.now tree.now.root tree.now.level }
-    ensures { IfSome result (λ x. IsBeside R.form (tree_records R.form over.now tree.now.root tree.now.level) x new.now) }
+    requires { IsTree R.form over.now tree.now }
+    ensures { IfSome result (λ x. IsBeside R.form (records_of_tree R.form over.now tree.now) x new.now) }
 {
     match tree.at_most(over, new) {
         Some(found) if found == *old => Some(found),
@@ -169,7 +169,7 @@ impl<R: Family> Model for Grown<R> {
 
     ghost view = { λ g. g.count };
 
-    ghost invariant = { λ g. IsGrown R.form R.family g.over g.tree.root g.tree.level g.count g.spare };
+    ghost invariant = { λ g. IsGrown R.form R.family g.over g.tree.block g.tree.level g.count g.spare };
 }
 
 impl<R: Family + Kept + Reach + PartialEq> Grown<R> {

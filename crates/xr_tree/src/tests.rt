@@ -99,7 +99,7 @@ fn put_header<R: Record>(rt: &impl Abort, blocks: &mut Blocks, laid: Laid) {
     }
 }
 
-fn put_record<R: Record>(rt: &impl Abort, bytes: &mut [u8], at: usize, record: &R) {
+fn insert_record<R: Record>(rt: &impl Abort, bytes: &mut [u8], at: usize, record: &R) {
     let mut out = [0; MOST_BYTES];
     assert!(rt; record.valid() && R::SIZE <= MOST_BYTES);
     record.put(&mut out[..R::SIZE]);
@@ -127,7 +127,7 @@ pub(crate) fn put_leaf<R: Record>(
     assert!(rt; number < GROUP_BLOCKS && records.len() <= 512 && R::SIZE <= MOST_BYTES);
     for i in 0..records.len() {
         let at = BLOCK_BYTES * number + header + R::SIZE * i;
-        put_record(rt, &mut blocks.bytes, at, &records[i]);
+        insert_record(rt, &mut blocks.bytes, at, &records[i]);
     }
     sum_up::<R>(rt, blocks, number);
 }
@@ -211,7 +211,7 @@ fn verified<R: Kept + Reach>(
     Tree::<R>::verify(over, root, level, &mut seen)
 }
 
-/// A tree answers lookups for a record of it that comes behind another.
+/// A tree answers lookups for a record of it that comes after another.
 fn finds<R: Kept + Reach + PartialEq>(
     rt: &impl Abort,
     over: &Overlay,
@@ -429,10 +429,10 @@ const BROKEN: [(usize, usize, u8, bool, u32, TreeKind); 22] = [
     (1, 7, 1, true, 777, TreeKind::Count),
     (2, 7, 83, true, 778, TreeKind::Count),
     (2, 7, 169, true, 778, TreeKind::Count),
-    // The length of the first record, and a byte behind the last one.
+    // The length of the first record, and a byte after the last one.
     (2, 63, 0, true, 778, TreeKind::Field),
     (3, 56 + 24 * 100, 1, true, 779, TreeKind::Field),
-    // The first record begins behind the second, or goes on to it.
+    // The first record begins after the second, or goes on to it.
     (2, 59, 4, true, 778, TreeKind::Order),
     (2, 63, 2, true, 778, TreeKind::Merge),
     // The key of the second leaf, and the high key of the first.
@@ -509,7 +509,7 @@ fn part<'a>(rt: &impl Abort, records: &'a [Reverse], k: usize, each: usize) -> &
     &rest[..rest.len().min(each)]
 }
 
-/// The neighbours of the k-th of some blocks that stand one behind the other.
+/// The siblings of the k-th of some blocks that stand one after the other.
 fn beside(rt: &impl Abort, number: u32, k: usize, count: usize) -> (Option<u32>, Option<u32>) {
     assert!(rt; k < 256);
     (
@@ -522,7 +522,7 @@ fn beside(rt: &impl Abort, number: u32, k: usize, count: usize) -> (Option<u32>,
     )
 }
 
-/// Lays out a node over blocks that stand one behind the other.
+/// Lays out a node over blocks that stand one after the other.
 fn put_node(
     rt: &impl Abort,
     blocks: &mut Blocks,
@@ -556,7 +556,7 @@ fn put_leaves(rt: &impl Abort, blocks: &mut Blocks, from: u32, records: &[Revers
     count
 }
 
-/// A tree of owners of three levels: the root in block 1, three nodes behind it, and then the leaves.
+/// A tree of owners of three levels: the root in block 1, three nodes after it, and then the leaves.
 fn put_three_levels(rt: &impl Abort, blocks: &mut Blocks, records: &[Reverse]) {
     put_leaves(rt, blocks, 5, records);
     for j in 0..3 {

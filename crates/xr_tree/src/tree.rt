@@ -1,43 +1,54 @@
 //! A tree, by its root.
 ghost use Rattle.std.specs.Prelude.{◌≡◌, ℕ, ◌+◌, ◌*◌, ◌≤◌, ◌↔◌, true, false, length, IsOk, IfOk, IsTrue};
 ghost use Rattle.std.specs.List.{All, Contains};
-ghost use Rattle.xr_pool.specs.Bits.{has_bit};
-ghost use Rattle.xr_block.specs.Frame.{ChangesOnly};
-ghost use Rattle.xr_pool.specs.Overlay.{changed_blocks, free_count, pool_size};
-ghost use Rattle.xr_block.specs.Tree.{AreRecords, IsTreeIn, tree_blocks, tree_records};
+ghost use Rattle.xr_block.specs.Tree.{AreRecords};
+ghost use Rattle.xr_block.specs.Trees.{IsTree, blocks_of_tree, records_of_tree};
+ghost use Rattle.xr_change.specs.Calls.{ChangesTree, blocks_for};
 ghost use Rattle.xr_change.specs.Sets.{inserted, removed, replaced};
-ghost use Rattle.xr_change.specs.Ways.{blocks_wanted};
 ghost use Rattle.xr_lookup.specs.Lookup.{FindsGreatest, FindsLeast, from, overlaps, up_to};
+ghost use Rattle.xr_pool.specs.Bits.{has_bit};
+ghost use Rattle.xr_pool.specs.Overlay.{free_count, pool_size};
+ghost use Rattle.xr_tree.specs.Calls.{IsTreeOfItsOwn, Marks};
 
-use std::marker::PhantomData;
+use std::marker::{Model, PhantomData};
+use xr_block::Root;
 use xr_block::fault::TreeFault;
-use xr_change::{Root, insert, remove, replace};
+use xr_change::{insert_into_tree, remove_from_tree, replace_in_tree};
 use xr_kinds::Record;
 use xr_lookup::{Reach, at_least, at_most, overlap};
 use xr_pool::Overlay;
 use xr_verify::{Kept, verify};
 
-/// A tree of records of one kind, which stands in the blocks of an overlay.
-#[derive(Drop)]
+/// A tree of records of one kind, which stands in the blocks of an overlay. A contract sees its root.
+#[derive(Clone, Copy)]
 pub struct Tree<R: Record> {
-    root: u32,
-    level: u32,
+    root: Root,
     kind: PhantomData<R>,
+}
+
+impl<R: Record> Model for Tree<R> {
+    ghost use Rattle.xr_block.specs.declared.root.Root as at;
+
+    ghost Value = { at.Root };
+
+    ghost view = { λ t. t.root };
+
+    ghost inverse = { λ r. record { root = r; kind = record {} } };
 }
 
 impl<R: Record> Tree<R> {
     /// The pool block of the root.
     pub fn root(&self) -> u32
-        ensures { result ≡ self.now.root }
+        ensures { result ≡ self.now.block }
     {
-        self.root
+        self.root.block
     }
 
     /// How many levels there are below the root.
     pub fn level(&self) -> u32
         ensures { result ≡ self.now.level }
     {
-        self.level
+        self.root.level
     }
 }
 
@@ -52,17 +63,14 @@ impl<R: Kept> Tree<R> {
         seen: &mut [u8],
     ) -> Result<Tree<R>, TreeFault>
         requires { pool_size over.now ≤ 8 * length seen.old }
-        ensures right { IsOk result ↔ (IsTreeIn R.form over.now root level × All (λ n. has_bit seen.old n ≡ false) (tree_blocks R.form over.now root level)) }
-        ensures root { IfOk result (λ tree. tree.root ≡ root) }
-        ensures level { IfOk result (λ tree. tree.level ≡ level) }
+        ensures right { IsOk result ↔ IsTreeOfItsOwn R.form over.now (record { block = root; level = level }) seen.old }
+        ensures tree { IfOk result (λ tree. tree ≡ record { block = root; level = level }) }
         ensures long { length seen.new ≡ length seen.old }
-        ensures marked { IsOk result → (n : ℕ) → Contains (tree_blocks R.form over.now root level) n → has_bit seen.new n ≡ true }
-        ensures others { IsOk result → (n : ℕ) → ¬ (Contains (tree_blocks R.form over.now root level) n) → has_bit seen.new n ≡ has_bit seen.old n }
+        ensures marked { IfOk result (λ tree. Marks seen.old (blocks_of_tree R.form over.now tree) seen.new) }
     {
         verify::<R>(over, root, level, seen)?;
         Ok(Tree {
-            root,
-            level,
+            root: Root { block: root, level },
             kind: PhantomData,
         })
     }
@@ -71,93 +79,66 @@ impl<R: Kept> Tree<R> {
 impl<R: Reach> Tree<R> {
     /// The greatest record that isn't above another.
     pub fn at_most(&self, over: &Overlay, r: &R) -> Option<R>
-        requires { IsTreeIn R.form over.now self.now.root self.now.level }
-        ensures { FindsGreatest R.form (tree_records R.form over.now self.now.root self.now.level) (up_to R.form r.now) result }
+        requires { IsTree R.form over.now self.now }
+        ensures { FindsGreatest R.form (records_of_tree R.form over.now self.now) (up_to R.form r.now) result }
     {
-        at_most(over, self.root, self.level, r)
+        at_most(over, self.root.block, self.root.level, r)
     }
 
     /// The least record that isn't below another.
     pub fn at_least(&self, over: &Overlay, r: &R) -> Option<R>
-        requires { IsTreeIn R.form over.now self.now.root self.now.level }
-        ensures { FindsLeast R.form (tree_records R.form over.now self.now.root self.now.level) (from R.form r.now) result }
+        requires { IsTree R.form over.now self.now }
+        ensures { FindsLeast R.form (records_of_tree R.form over.now self.now) (from R.form r.now) result }
     {
-        at_least(over, self.root, self.level, r)
+        at_least(over, self.root.block, self.root.level, r)
     }
 
-    /// The first record, in the order of the tree, that meets a valid one. Where a record is given to go on behind, it is
-    /// the first behind that.
+    /// The first record, in the order of the tree, that meets a valid one. Where a record is given to go on after, it is
+    /// the first after that.
     pub fn overlap(&self, over: &Overlay, with: &R, after: Option<R>) -> Option<R>
-        requires tree { IsTreeIn R.form over.now self.now.root self.now.level }
+        requires tree { IsTree R.form over.now self.now }
         requires valid { IsTrue (R.form.is_valid with.now) }
-        ensures { FindsLeast R.form (tree_records R.form over.now self.now.root self.now.level) (overlaps R.form with.now after) result }
+        ensures { FindsLeast R.form (records_of_tree R.form over.now self.now) (overlaps R.form with.now after) result }
     {
-        overlap(over, self.root, self.level, with, after)
+        overlap(over, self.root.block, self.root.level, with, after)
     }
 }
 
 impl<R: Record> Tree<R> {
-    fn place(&self) -> Root
-        ensures number { result.number ≡ self.now.root }
-        ensures level { result.level ≡ self.now.level }
-    {
-        Root {
-            number: self.root,
-            level: self.level,
-        }
-    }
-
-    fn stand(&mut self, root: Root)
-        ensures number { self.new.root ≡ root.number }
-        ensures level { self.new.level ≡ root.level }
-    {
-        self.root = root.number;
-        self.level = root.level;
-    }
-
     /// Puts a record into the tree. It may not be there, and the records keep their rules with it. For each full block on
-    /// the way to its leaf, and for a full root once more, the pool has a free block. At most three blocks for each level and
-    /// one more are written.
+    /// the path to its leaf, and for a full root once more, the pool has a free block. At most three blocks for each level
+    /// and one more become changed ones.
     pub fn insert(&mut self, over: &mut Overlay, r: R)
-        requires tree { IsTreeIn R.form over.old self.old.root self.old.level }
-        requires rules { AreRecords R.form (inserted R.form.order r (tree_records R.form over.old self.old.root self.old.level)) }
-        requires room { blocks_wanted R.form over.old self.old.level self.old.root r ≤ free_count over.old }
-        ensures tree { IsTreeIn R.form over.new self.new.root self.new.level }
-        ensures set { tree_records R.form over.new self.new.root self.new.level ≡ inserted R.form.order r (tree_records R.form over.old self.old.root self.old.level) }
-        ensures frame { ChangesOnly over.old (tree_blocks R.form over.old self.old.root self.old.level) over.new (tree_blocks R.form over.new self.new.root self.new.level) }
-        ensures room { free_count over.old ≤ free_count over.new + blocks_wanted R.form over.old self.old.level self.old.root r }
-        ensures changed { length (changed_blocks over.new) ≤ length (changed_blocks over.old) + (3 * (self.old.level + 1) + 1) }
+        requires tree { IsTree R.form over.old self.old }
+        requires rules { AreRecords R.form (inserted R.form.order r (records_of_tree R.form over.old self.old)) }
+        requires room { blocks_for R.form over.old self.old r ≤ free_count over.old }
+        ensures step { ChangesTree R.form over.old self.old over.new self.new (inserted R.form.order r) }
+        ensures room { free_count over.old ≤ free_count over.new + blocks_for R.form over.old self.old r }
     {
-        let root = insert(over, self.place(), &r);
-        self.stand(root);
+        self.root = insert_into_tree(over, self.root, &r);
     }
 
-    /// Cuts a record out of the tree, where it has to be. At most three blocks for each level and one more are written.
+    /// Removes a record from the tree, where it has to be. At most three blocks for each level and one more become changed
+    /// ones.
     pub fn remove(&mut self, over: &mut Overlay, r: &R)
-        requires tree { IsTreeIn R.form over.old self.old.root self.old.level }
-        requires held { Contains (tree_records R.form over.old self.old.root self.old.level) r.now }
-        ensures tree { IsTreeIn R.form over.new self.new.root self.new.level }
-        ensures set { tree_records R.form over.new self.new.root self.new.level ≡ removed R.form.order r.now (tree_records R.form over.old self.old.root self.old.level) }
-        ensures frame { ChangesOnly over.old (tree_blocks R.form over.old self.old.root self.old.level) over.new (tree_blocks R.form over.new self.new.root self.new.level) }
+        requires tree { IsTree R.form over.old self.old }
+        requires held { Contains (records_of_tree R.form over.old self.old) r.now }
+        ensures step { ChangesTree R.form over.old self.old over.new self.new (removed R.form.order r.now) }
         ensures room { free_count over.old ≤ free_count over.new }
-        ensures changed { length (changed_blocks over.new) ≤ length (changed_blocks over.old) + (3 * (self.old.level + 1) + 1) }
     {
-        let root = remove(over, self.place(), r);
-        self.stand(root);
+        self.root = remove_from_tree(over, self.root, r);
     }
 
     /// Writes a record over another one of the tree, in whose place of the order it stands. The records keep their rules
-    /// with it. At most three blocks for each level and one more are written.
+    /// with it. At most three blocks for each level and one more become changed ones.
     pub fn replace(&mut self, over: &mut Overlay, old: &R, new: R)
-        requires tree { IsTreeIn R.form over.old self.old.root self.old.level }
-        requires held { Contains (tree_records R.form over.old self.old.root self.old.level) old.now }
-        requires rules { AreRecords R.form (replaced R.form.order old.now new (tree_records R.form over.old self.old.root self.old.level)) }
-        ensures tree { IsTreeIn R.form over.new self.new.root self.new.level }
-        ensures set { tree_records R.form over.new self.new.root self.new.level ≡ replaced R.form.order old.now new (tree_records R.form over.old self.old.root self.old.level) }
-        ensures frame { ChangesOnly over.old (tree_blocks R.form over.old self.old.root self.old.level) over.new (tree_blocks R.form over.new self.new.root self.new.level) }
-        ensures room { free_count over.old ≤ free_count over.new }
-        ensures changed { length (changed_blocks over.new) ≤ length (changed_blocks over.old) + (3 * (self.old.level + 1) + 1) }
+        requires tree { IsTree R.form over.old self.old }
+        requires held { Contains (records_of_tree R.form over.old self.old) old.now }
+        requires rules { AreRecords R.form (replaced R.form.order old.now new (records_of_tree R.form over.old self.old)) }
+        ensures step { ChangesTree R.form over.old self.old over.new self.new (replaced R.form.order old.now new) }
+        ensures same { self.new ≡ self.old }
+        ensures room { free_count over.new ≡ free_count over.old }
     {
-        replace(over, self.place(), old, &new);
+        replace_in_tree(over, self.root, old, &new);
     }
 }

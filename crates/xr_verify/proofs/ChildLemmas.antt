@@ -9,13 +9,13 @@ use Rattle.xr_kinds.specs.Form.{Form, IsForm}
 use Rattle.xr_block.specs.NodeEntries.{child_in, key_in}
 use Rattle.xr_pool.specs.Overlay.{Blocks, block_at, is_free, pool_size}
 use Rattle.xr_verify.specs.Passed.{IsPast}
-use Rattle.xr_block.specs.Rows.{half, key_held, leaves_from, rows_from}
+use Rattle.xr_block.specs.Rows.{min_records, key_held, leaves_from, rows_from}
 use Rattle.xr_block.specs.Tree.{AreRecords, IsUsed, blocks_of, records_of, tree_held}
 use Rattle.xr_block.specs.TreeBlock.{count_in}
 use Rattle.xr_verify.specs.Visits.{AreMarked, AreNamedFrom, AreSound, AreTrees, AreVisited, children, is_end, last_below, mark}
 use Rattle.xr_verify.proofs.PassLemmas.{next_dropped}
 use Rattle.xr_verify.proofs.SoundnessLemmas.{one_at_most, sound_front, sound_apart, sound_joined}
-use Rattle.xr_verify.proofs.VisitLemmas.{half_fits, records_append, times_blocks}
+use Rattle.xr_verify.proofs.VisitLemmas.{min_records_fit, records_append, times_blocks}
 use Rattle.xr_block.specs.Times.{times}
 
 pub records_of_past : {X L : Type 0} (form : Form X) (Notes : L → List X → Type 0) (p : Passed X L) (noted : List X) → IsPast form Notes p noted → AreRecords form noted
@@ -37,7 +37,7 @@ module _ {X : Type 0} (form : Form X) (b : Blocks) where
   trees_none : (least level : ℕ) (left : Option ℕ) (last : Bool) → AreTrees form b least level left last []
   unfolding AreTrees AreVisited
   trees_none least zero left last = tt
-  trees_none least (suc level) left last = (tt, trees_none (half form level) level (last_below form b left) last)
+  trees_none least (suc level) left last = (tt, trees_none (min_records form level) level (last_below form b left) last)
 
   pub blocks_none : (level : ℕ) → blocks_of form b level [] ≡ []
   unfolding rows_from
@@ -61,10 +61,10 @@ module _ {X : Type 0} (form : Form X) (b : Blocks) where
   }
 
   pub first_alone : (laws : IsForm form) (level : ℕ) (left : Option ℕ) (last : Bool) (c : ℕ) (rest seen : List ℕ) (noted : List X)
-      → AreSound form b (half form level) level left last (c ∷ rest) seen noted → AreSound form b (half form level) level left (is_end rest && last) (c ∷ []) seen noted
+      → AreSound form b (min_records form level) level left last (c ∷ rest) seen noted → AreSound form b (min_records form level) level left (is_end rest && last) (c ∷ []) seen noted
   first_alone laws level left last c [] seen noted sound = sound
   first_alone laws level left last c (r ∷ rs) seen noted sound =
-      sound_front form laws b (half form level) level left last (c ∷ []) (r ∷ rs) seen noted (half_fits form laws level) refl sound
+      sound_front form laws b (min_records form level) level left last (c ∷ []) (r ∷ rs) seen noted (min_records_fit form laws level) refl sound
 
   -- a sound block is one of the pool
   pub sound_used : (least level : ℕ) (left : Option ℕ) (last : Bool) (c : ℕ) (seen : List ℕ) (noted : List X)
@@ -75,27 +75,27 @@ module _ {X : Type 0} (form : Form X) (b : Blocks) where
 
   module _ (laws : IsForm form) (level : ℕ) (left : Option ℕ) (last : Bool) (c : ℕ) (seen now : List ℕ) (noted : List X) (marked : AreMarked seen (blocks_of form b level (c ∷ [])) now) where
     -- the first of some trees, and the others
-    pub first_apart : (rest : List ℕ) → AreSound form b (half form level) level left last (c ∷ rest) seen noted
-        → AreSound form b (half form level) level left (is_end rest && last) (c ∷ []) seen noted
-        × AreSound form b (half form level) level (Some c) last rest now (noted ++ records_of form b level (c ∷ []))
-    first_apart [] sound = (sound, sound_none (half form level) level (Some c) last now (noted ++ records_of form b level (c ∷ [])) sound.records)
-    first_apart (r ∷ rs) sound = sound_apart form laws b (half form level) level left last (c ∷ []) (r ∷ rs) seen now noted (half_fits form laws level) refl marked sound
+    pub first_apart : (rest : List ℕ) → AreSound form b (min_records form level) level left last (c ∷ rest) seen noted
+        → AreSound form b (min_records form level) level left (is_end rest && last) (c ∷ []) seen noted
+        × AreSound form b (min_records form level) level (Some c) last rest now (noted ++ records_of form b level (c ∷ []))
+    first_apart [] sound = (sound, sound_none (min_records form level) level (Some c) last now (noted ++ records_of form b level (c ∷ [])) sound.records)
+    first_apart (r ∷ rs) sound = sound_apart form laws b (min_records form level) level left last (c ∷ []) (r ∷ rs) seen now noted (min_records_fit form laws level) refl marked sound
 
-    pub first_joined : (rest : List ℕ) → AreSound form b (half form level) level left (is_end rest && last) (c ∷ []) seen noted
-        → AreSound form b (half form level) level (Some c) last rest now (noted ++ records_of form b level (c ∷ []))
-        → AreSound form b (half form level) level left last (c ∷ rest) seen noted
+    pub first_joined : (rest : List ℕ) → AreSound form b (min_records form level) level left (is_end rest && last) (c ∷ []) seen noted
+        → AreSound form b (min_records form level) level (Some c) last rest now (noted ++ records_of form b level (c ∷ []))
+        → AreSound form b (min_records form level) level left last (c ∷ rest) seen noted
     first_joined [] first others = first
     first_joined (r ∷ rs) first others =
-        sound_joined form laws b (half form level) level left last (c ∷ []) (r ∷ rs) seen now noted (half_fits form laws level) refl marked first others
+        sound_joined form laws b (min_records form level) level left last (c ∷ []) (r ∷ rs) seen now noted (min_records_fit form laws level) refl marked first others
 
 -- where the first k children of a node are visited: what is asked of all is asked of those that are left, after some records
 pub record AreVisitedTo {X L : Type 0} (form : Form X) (Notes : L → List X → Type 0) (b : Blocks) (level n : ℕ) (before : Option ℕ) (last : Bool) (seen : List ℕ) (noted : List X) (left : Option ℕ) (now : List ℕ) (p : Passed X L) (k : ℕ) : Type 0 where
   pub records : List X
   pub past : IsPast form Notes p records
-  pub rest : AreSound form b (half form level) level before last (children form b n) seen noted → AreNamedFrom form b level n 0
-      → AreSound form b (half form level) level left last (drop k (children form b n)) now records × AreNamedFrom form b level n k
-  pub all : AreSound form b (half form level) level left last (drop k (children form b n)) now records → AreNamedFrom form b level n k
-      → AreSound form b (half form level) level before last (children form b n) seen noted × AreNamedFrom form b level n 0
+  pub rest : AreSound form b (min_records form level) level before last (children form b n) seen noted → AreNamedFrom form b level n 0
+      → AreSound form b (min_records form level) level left last (drop k (children form b n)) now records × AreNamedFrom form b level n k
+  pub all : AreSound form b (min_records form level) level left last (drop k (children form b n)) now records → AreNamedFrom form b level n k
+      → AreSound form b (min_records form level) level before last (children form b n) seen noted × AreNamedFrom form b level n 0
   pub same : records ++ records_of form b level (drop k (children form b n)) ≡ noted ++ records_of form b level (children form b n)
 
 -- and the marks
@@ -107,15 +107,15 @@ pub record AreMarkedTo {X : Type 0} (form : Form X) (b : Blocks) (level n : ℕ)
 module _ {X L : Type 0} (form : Form X) (laws : IsForm form) (Notes : L → List X → Type 0) (b : Blocks) (level n : ℕ) (before : Option ℕ) (last : Bool) (seen : List ℕ) (noted : List X) (left : Option ℕ) (now : List ℕ) (p : Passed X L) (k : ℕ) (to : AreVisitedTo form Notes b level n before last seen noted left now p k) where
   -- at the end
   pub visited_all : length (children form b n) ≤ k → count_in (block_at b n) ≤ k
-      → (AreSound form b (half form level) level before last (children form b n) seen noted × AreNamedFrom form b level n 0)
+      → (AreSound form b (min_records form level) level before last (children form b n) seen noted × AreNamedFrom form b level n 0)
       × IsPast form Notes p (noted ++ records_of form b level (children form b n))
   visited_all past few =
       let none : drop k (children form b n) ≡ [] = drop_all k (children form b n) past in
-      let sound = sound_none form b (half form level) level left last now to.records (records_of_past form Notes p to.records to.past) in
+      let sound = sound_none form b (min_records form level) level left last now to.records (records_of_past form Notes p to.records to.past) in
       let records : to.records ≡ noted ++ records_of form b level (children form b n) =
       sym (append-nil to.records) ∙ ap (λ (rs : List X). to.records ++ rs) (sym (records_none form b level))
       ∙ ap (λ (row : List ℕ). to.records ++ records_of form b level row) (sym none) ∙ to.same in (
-        to.all (subst (λ (row : List ℕ). AreSound form b (half form level) level left last row now to.records) (sym none) sound)
+        to.all (subst (λ (row : List ℕ). AreSound form b (min_records form level) level left last row now to.records) (sym none) sound)
             (λ i from within. absurd (omega (arith, from, within, few))),
         subst (IsPast form Notes p) records to.past,
       )
@@ -125,17 +125,17 @@ module _ {X L : Type 0} (form : Form X) (laws : IsForm form) (Notes : L → List
     next = next_dropped (children form b n) k c within is
 
     -- the next child is sound, and has its key
-    pub next_sound : AreSound form b (half form level) level before last (children form b n) seen noted → AreNamedFrom form b level n 0
-        → AreSound form b (half form level) level left (is_end (drop (k + 1) (children form b n)) && last) (c ∷ []) now to.records
+    pub next_sound : AreSound form b (min_records form level) level before last (children form b n) seen noted → AreNamedFrom form b level n 0
+        → AreSound form b (min_records form level) level left (is_end (drop (k + 1) (children form b n)) && last) (c ∷ []) now to.records
         × (key_in form k (block_at b n) ≡ key_held form (tree_held form b) level (child_in form k (block_at b n)))
     next_sound sound named =
         let rest = to.rest sound named in
-        let row = subst (λ (row : List ℕ). AreSound form b (half form level) level left last row now to.records) next rest.0 in
+        let row = subst (λ (row : List ℕ). AreSound form b (min_records form level) level left last row now to.records) next rest.0 in
         (first_alone form b laws level left last c (drop (k + 1) (children form b n)) now to.records row, rest.1 k (omega arith) (omega (arith, within, counted)))
 
     -- and where it is, the first k + 1 are visited
     pub visited_more : (after : List ℕ) (q : Passed X L) → AreMarked now (blocks_of form b level (c ∷ [])) after
-        → AreSound form b (half form level) level left (is_end (drop (k + 1) (children form b n)) && last) (c ∷ []) now to.records
+        → AreSound form b (min_records form level) level left (is_end (drop (k + 1) (children form b n)) && last) (c ∷ []) now to.records
         → key_in form k (block_at b n) ≡ key_held form (tree_held form b) level (child_in form k (block_at b n))
         → IsPast form Notes q (to.records ++ records_of form b level (c ∷ []))
         → AreVisitedTo form Notes b level n before last seen noted (Some c) after q (k + 1)
@@ -147,10 +147,10 @@ module _ {X L : Type 0} (form : Form X) (laws : IsForm form) (Notes : L → List
           past = past;
           rest = λ sound names.
               let rest = to.rest sound names in
-              let row = subst (λ (row : List ℕ). AreSound form b (half form level) level left last row now to.records) next rest.0 in
+              let row = subst (λ (row : List ℕ). AreSound form b (min_records form level) level left last row now to.records) next rest.0 in
               ((first_apart form b laws level left last c now after to.records marked others row).1, λ i from under. rest.1 i (omega (arith, from)) under);
           all = λ sound names.
-              to.all (subst (λ (row : List ℕ). AreSound form b (half form level) level left last row now to.records) (sym next)
+              to.all (subst (λ (row : List ℕ). AreSound form b (min_records form level) level left last row now to.records) (sym next)
               (first_joined form b laws level left last c now after to.records marked others first sound))
               (λ i from under. ⊎_elim
               (λ (same : i ≡ k).

@@ -11,7 +11,7 @@ use Rattle.xr_pool.specs.Overlay.{Blocks, block_at, pool_size}
 use Rattle.xr_block.specs.Rows.{key_held, key_of_entries, key_of_records}
 use Rattle.xr_block.specs.Tree.{AreRecords, tree_held}
 use Rattle.xr_block.specs.TreeBlock.{Entry, count_in, entries_in, records_in}
-use Rattle.xr_verify.specs.Visits.{AreMarked, IsEntered, IsLinked, IsOpen, IsTested, mark}
+use Rattle.xr_verify.specs.Visits.{AreMarked, IsEntered, IsLinked, mark, IsUnvisited, IsChecked}
 use Rattle.xr_block.specs.ItemCheckLaws.{few_records}
 use Rattle.xr_block.specs.Times.{times}
 
@@ -79,7 +79,7 @@ passed_if form noted records room count room_is count_is passed = (
 
 -- a leaf that is open, that stands in its place and whose records are passed, keeps all rules where there is room for it
 pub rules_of_leaf : {X : Type 0} (form : Form X) (b : Blocks) (least : ℕ) (left : Option ℕ) (last : Bool) (n : ℕ) (seen bytes : List ℕ) (noted : List X) (room count : ℕ) (Key Taken : Type 0)
-    → 1 ≤ n → n < pool_size b → IsOpen b n seen × IsTested form b least zero n → Key × IsLinked form b left last n → bytes ≡ block_at b n
+    → 1 ≤ n → n < pool_size b → IsUnvisited b n seen × IsChecked form b least zero n → Key × IsLinked form b left last n → bytes ≡ block_at b n
     → ArePassed form (noted ++ records_in form bytes) → room + length noted ≡ form.most → count ≡ length (records_in form bytes) → (Taken ↔ (count ≤ room))
     → Taken ↔ (IsEntered form b least zero left last n seen × Key × AreRecords form (noted ++ records_in form (block_at b n)))
 rules_of_leaf form b least left last n seen bytes noted room count Key Taken from within opened placed is passed room_is count_is enough =

@@ -6,10 +6,10 @@ use Rattle.std.specs.List.{flat_map, last_or}
 use Rattle.xr_pool.specs.Bits.{has_bit}
 use Rattle.xr_kinds.specs.Form.{Form, IsForm}
 use Rattle.xr_pool.specs.Overlay.{Blocks, block_at}
-use Rattle.xr_block.specs.Rows.{half, leaves_from, rows_from}
+use Rattle.xr_block.specs.Rows.{min_records, leaves_from, rows_from}
 use Rattle.xr_block.specs.Tree.{AreRecords, blocks_of, records_of}
 use Rattle.xr_block.specs.TreeBlock.{records_in}
-use Rattle.xr_verify.specs.Visits.{Fits, AreFresh, AreMarked, AreSound, AreTrees, AreVisited, IsNamed, IsVisited, children, is_end, IsEntered, last_below, mark}
+use Rattle.xr_verify.specs.Visits.{AreFresh, AreMarked, AreSound, AreTrees, AreVisited, IsVisited, children, is_end, IsEntered, last_below, mark, HasChildren, HasOwnKeys}
 use Rattle.xr_verify.proofs.VisitLemmas.{records_append, times-append, times_blocks, trees_apart, trees_joined}
 use Rattle.xr_block.specs.Times.{times}
 
@@ -27,7 +27,7 @@ records_front form xs ys all =
 
 -- the first of some sound trees
 pub sound_front : {X : Type 0} (form : Form X) (laws : IsForm form) (b : Blocks) (least level : ℕ) (left : Option ℕ) (last : Bool) (xs ys seen : List ℕ) (noted : List X)
-    → Fits least level → is_end ys ≡ false → AreSound form b least level left last (xs ++ ys) seen noted → AreSound form b least level left false xs seen noted
+    → HasChildren least level → is_end ys ≡ false → AreSound form b least level left last (xs ++ ys) seen noted → AreSound form b least level left false xs seen noted
 sound_front form laws b least level left last xs ys seen noted fits more sound = record {
   trees = (trees_apart form b least level left last xs ys laws fits more sound.trees).0;
   fresh = λ n. omega (arith, times_blocks form b n level xs ys, sound.fresh n);
@@ -36,7 +36,7 @@ sound_front form laws b least level left last xs ys seen noted fits more sound =
       ∙ sym (append_assoc noted (records_of form b level xs) (records_of form b level ys))) sound.records);
 }
 
-module _ {X : Type 0} (form : Form X) (laws : IsForm form) (b : Blocks) (least level : ℕ) (left : Option ℕ) (last : Bool) (xs ys seen now : List ℕ) (noted : List X) (fits : Fits least level) (more : is_end ys ≡ false) (marked : AreMarked seen (blocks_of form b level xs) now) where
+module _ {X : Type 0} (form : Form X) (laws : IsForm form) (b : Blocks) (least level : ℕ) (left : Option ℕ) (last : Bool) (xs ys seen now : List ℕ) (noted : List X) (fits : HasChildren least level) (more : is_end ys ≡ false) (marked : AreMarked seen (blocks_of form b level xs) now) where
   front : List X
   front = records_of form b level xs
 
@@ -107,7 +107,7 @@ module _ {X : Type 0} (form : Form X) (laws : IsForm form) (b : Blocks) (least :
     linked = visited.linked;
   }
 
-  visited_if : (level : ℕ) → IsEntered form b least level left last n seen → IsNamed form b level n → IsVisited form b least level left last n
+  visited_if : (level : ℕ) → IsEntered form b least level left last n seen → HasOwnKeys form b level n → IsVisited form b least level left last n
   visited_if level entered named = record {
     used = entered.used;
     tested = entered.tested;
@@ -172,28 +172,28 @@ module _ {X : Type 0} (form : Form X) (laws : IsForm form) (b : Blocks) (least :
         ∙ ap (λ (row : List ℕ). times k (n ∷ []) + times k (blocks_of form b level row)) children_alone
 
     pub node_entered : AreSound form b least (suc level) left last (n ∷ []) seen noted
-        → IsEntered form b least (suc level) left last n seen × IsNamed form b (suc level) n
-        × AreSound form b (half form level) level (last_below form b left) last (children form b n) now noted
+        → IsEntered form b least (suc level) left last n seen × HasOwnKeys form b (suc level) n
+        × AreSound form b (min_records form level) level (last_below form b left) last (children form b n) now noted
     unfolding AreTrees
     node_entered sound =
         let visited = alone (suc level) sound.trees.0 in (
           entered (suc level) visited (sound.fresh n) (omega (arith, blocks_node n, marked_once n)),
           visited.named,
           record {
-            trees = subst (λ (row : List ℕ). AreTrees form b (half form level) level (last_below form b left) last row) children_alone sound.trees.1;
+            trees = subst (λ (row : List ℕ). AreTrees form b (min_records form level) level (last_below form b left) last row) children_alone sound.trees.1;
             fresh = λ k. omega (arith, blocks_node k, sound.fresh k, marked.marks k);
             records = subst (λ (rs : List X). AreRecords form (noted ++ rs)) records_node sound.records;
           },
         )
 
-    pub node_sound : IsEntered form b least (suc level) left last n seen → IsNamed form b (suc level) n
-        → AreSound form b (half form level) level (last_below form b left) last (children form b n) now noted
+    pub node_sound : IsEntered form b least (suc level) left last n seen → HasOwnKeys form b (suc level) n
+        → AreSound form b (min_records form level) level (last_below form b left) last (children form b n) now noted
         → AreSound form b least (suc level) left last (n ∷ []) seen noted
     unfolding AreTrees
     node_sound entered named below = record {
       trees = (
         row_alone (suc level) (visited_if (suc level) entered named),
-        subst (λ (row : List ℕ). AreTrees form b (half form level) level (last_below form b left) last row) (sym children_alone) below.trees,
+        subst (λ (row : List ℕ). AreTrees form b (min_records form level) level (last_below form b left) last row) (sym children_alone) below.trees,
       );
       fresh = λ k. omega (arith, blocks_node k, below.fresh k, marked.marks k);
       records = subst (λ (rs : List X). AreRecords form (noted ++ rs)) (sym records_node) below.records;

@@ -5,15 +5,15 @@ use Rattle.std.proofs.lemmas.Grind.{flat_map-append}
 use Rattle.std.proofs.lemmas.Bool.{le-leb, lt-ltb}
 use Rattle.std.proofs.lemmas.List.{append-nil, append_assoc, get_or-map, length-map}
 use Rattle.std.specs.List.{flat_map, last_or}
-use Rattle.xr_block.specs.Checks.{IsTestedNode}
+use Rattle.xr_block.specs.Checks.{IsCheckedNode}
 use Rattle.xr_kinds.specs.Form.{Form, IsForm}
 use Rattle.xr_block.specs.NodeEntries.{child_in}
 use Rattle.xr_block.specs.NodeEntryLaws.{entry_read, length-entries}
 use Rattle.xr_pool.specs.Overlay.{Blocks, block_at, pool_size}
-use Rattle.xr_block.specs.Rows.{half, leaves_from, rows_from}
+use Rattle.xr_block.specs.Rows.{min_records, leaves_from, rows_from}
 use Rattle.xr_block.specs.Tree.{blocks_of, records_of, site_of, tree_held}
 use Rattle.xr_block.specs.TreeBlock.{Entry, count_in, entries_in}
-use Rattle.xr_verify.specs.Visits.{Fits, AreTrees, AreVisited, IsVisited, children, is_end, last_below}
+use Rattle.xr_verify.specs.Visits.{AreTrees, AreVisited, IsVisited, children, is_end, last_below, HasChildren}
 use Rattle.xr_verify.proofs.LastLemmas.{last_or-append, last_or-nth}
 use Rattle.xr_block.specs.Times.{times}
 
@@ -41,10 +41,10 @@ is_end-append : (xs ys : List ℕ) → is_end ys ≡ false → is_end (xs ++ ys)
 is_end-append [] ys more = more
 is_end-append (x ∷ xs) ys more = refl
 
-pub half_fits : {X : Type 0} (form : Form X) → IsForm form → (level : ℕ) → Fits (half form level) level
-unfolding half
-half_fits form laws zero = tt
-half_fits form laws (suc level) = omega (arith, laws.node_some)
+pub min_records_fit : {X : Type 0} (form : Form X) → IsForm form → (level : ℕ) → HasChildren (min_records form level) level
+unfolding min_records
+min_records_fit form laws zero = tt
+min_records_fit form laws (suc level) = omega (arith, laws.node_some)
 
 module _ {X : Type 0} (form : Form X) (b : Blocks) where
   -- the blocks and the records of trees that stand side by side
@@ -74,7 +74,7 @@ module _ {X : Type 0} (form : Form X) (b : Blocks) where
       ∙ flat_map-append (tree_held form b).records (leaves_from (tree_held form b) level xs) (leaves_from (tree_held form b) level ys)
 
   -- a whole node has a last child, and it is read
-  pub node_children : (least level n : ℕ) → 1 ≤ least → IsTestedNode form (site_of b) least n level (block_at b n)
+  pub node_children : (least level n : ℕ) → 1 ≤ least → IsCheckedNode form (site_of b) least n level (block_at b n)
       → (length (children form b n) ≡ count_in (block_at b n)) × (1 ≤ count_in (block_at b n)) × (count_in (block_at b n) ≤ form.node_max)
   node_children least level n some tested = (
     length-map (entries_in form (block_at b n)) (λ (e : Entry). e.child) ∙ length-entries form (block_at b n),
@@ -88,7 +88,7 @@ module _ {X : Type 0} (form : Form X) (b : Blocks) where
       get_or-map (λ (e : Entry). e.child) (entries_in form (block_at b n)) k entry d (omega (arith, within, length-entries form (block_at b n)))
       ∙ ap (λ (e : Entry). e.child) (entry_read form (block_at b n) k entry within)
 
-  last_of_node : (least level n : ℕ) (o : Option ℕ) → 1 ≤ least → n < pool_size b → IsTestedNode form (site_of b) least n level (block_at b n)
+  last_of_node : (least level n : ℕ) (o : Option ℕ) → 1 ≤ least → n < pool_size b → IsCheckedNode form (site_of b) least n level (block_at b n)
       → last_or o (children form b n) ≡ last_below form b (Some n)
   last_of_node least level n o some within tested =
       let known = node_children least level n some tested in
@@ -136,25 +136,25 @@ module _ {X : Type 0} (form : Form X) (b : Blocks) where
       (subst (λ (end : Bool). IsVisited form b least level left end x) same front.0, visited_joined least level (Some x) last xs ys more front.1 rest)
 
   -- and with all that is below them
-  pub trees_apart : (least level : ℕ) (left : Option ℕ) (last : Bool) (xs ys : List ℕ) → IsForm form → Fits least level → is_end ys ≡ false
+  pub trees_apart : (least level : ℕ) (left : Option ℕ) (last : Bool) (xs ys : List ℕ) → IsForm form → HasChildren least level → is_end ys ≡ false
       → AreTrees form b least level left last (xs ++ ys) → AreTrees form b least level left false xs × AreTrees form b least level (last_or left xs) last ys
   unfolding AreTrees
   trees_apart least zero left last xs ys laws fits more trees = visited_apart least zero left last xs ys more trees
   trees_apart least (suc level) left last xs ys laws fits more trees =
       let rows = visited_apart least (suc level) left last xs ys more trees.0 in
-      let next = subst (λ (row : List ℕ). AreTrees form b (half form level) level (last_below form b left) last row) (flat_map-append (children form b) xs ys) trees.1 in
-      let rest = trees_apart (half form level) level (last_below form b left) last (flat_map (children form b) xs) (flat_map (children form b) ys) laws (half_fits form laws level)
+      let next = subst (λ (row : List ℕ). AreTrees form b (min_records form level) level (last_below form b left) last row) (flat_map-append (children form b) xs ys) trees.1 in
+      let rest = trees_apart (min_records form level) level (last_below form b left) last (flat_map (children form b) xs) (flat_map (children form b) ys) laws (min_records_fit form laws level)
       (is_end-below least level (last_or left xs) last ys fits more rows.1) next in
-      ((rows.0, rest.0), (rows.1, subst (λ (o : Option ℕ). AreTrees form b (half form level) level o last (flat_map (children form b) ys)) (last_of_row least level left false xs fits rows.0) rest.1))
+      ((rows.0, rest.0), (rows.1, subst (λ (o : Option ℕ). AreTrees form b (min_records form level) level o last (flat_map (children form b) ys)) (last_of_row least level left false xs fits rows.0) rest.1))
 
-  pub trees_joined : (least level : ℕ) (left : Option ℕ) (last : Bool) (xs ys : List ℕ) → IsForm form → Fits least level → is_end ys ≡ false
+  pub trees_joined : (least level : ℕ) (left : Option ℕ) (last : Bool) (xs ys : List ℕ) → IsForm form → HasChildren least level → is_end ys ≡ false
       → AreTrees form b least level left false xs → AreTrees form b least level (last_or left xs) last ys → AreTrees form b least level left last (xs ++ ys)
   unfolding AreTrees
   trees_joined least zero left last xs ys laws fits more front rest = visited_joined least zero left last xs ys more front rest
   trees_joined least (suc level) left last xs ys laws fits more front rest =
-      let after = subst (λ (o : Option ℕ). AreTrees form b (half form level) level o last (flat_map (children form b) ys)) (sym (last_of_row least level left false xs fits front.0)) rest.1 in
-      let next = trees_joined (half form level) level (last_below form b left) last (flat_map (children form b) xs) (flat_map (children form b) ys) laws (half_fits form laws level)
+      let after = subst (λ (o : Option ℕ). AreTrees form b (min_records form level) level o last (flat_map (children form b) ys)) (sym (last_of_row least level left false xs fits front.0)) rest.1 in
+      let next = trees_joined (min_records form level) level (last_below form b left) last (flat_map (children form b) xs) (flat_map (children form b) ys) laws (min_records_fit form laws level)
       (is_end-below least level (last_or left xs) last ys fits more rest.0) front.1 after in (
         visited_joined least (suc level) left last xs ys more front.0 rest.0,
-        subst (λ (row : List ℕ). AreTrees form b (half form level) level (last_below form b left) last row) (sym (flat_map-append (children form b) xs ys)) next,
+        subst (λ (row : List ℕ). AreTrees form b (min_records form level) level (last_below form b left) last row) (sym (flat_map-append (children form b) xs ys)) next,
       )

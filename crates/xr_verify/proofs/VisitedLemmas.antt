@@ -8,10 +8,10 @@ use Rattle.xr_block.specs.NodeEntries.{child_in, key_in}
 use Rattle.xr_block.specs.NodeEntryLaws.{entry_read, length-entries}
 use Rattle.xr_pool.specs.Overlay.{Blocks, block_at, pool_size}
 use Rattle.xr_verify.specs.Passed.{IsPast}
-use Rattle.xr_block.specs.Rows.{half, key_held}
+use Rattle.xr_block.specs.Rows.{min_records, key_held}
 use Rattle.xr_block.specs.Tree.{AreRecords, blocks_of, records_of, tree_held}
 use Rattle.xr_block.specs.TreeBlock.{Entry, count_in, entries_in, records_in}
-use Rattle.xr_verify.specs.Visits.{AreMarked, AreNamedFrom, AreSound, IsEntered, IsNamed, children, is_end, last_below}
+use Rattle.xr_verify.specs.Visits.{AreMarked, AreNamedFrom, AreSound, IsEntered, children, is_end, last_below, HasOwnKeys}
 use Rattle.xr_verify.proofs.ChildLemmas.{AreVisitedTo, is_end-dropped, next_sound, sound_used, visited_more}
 use Rattle.xr_verify.proofs.SoundnessLemmas.{blocks_alone, blocks_node, leaf_entered, leaf_sound, node_entered, node_sound, records_alone, records_node}
 use Rattle.xr_verify.proofs.VisitLemmas.{child_is}
@@ -37,7 +37,7 @@ module _ {X : Type 0} (form : Form X) (b : Blocks) (level n : ℕ) where
             ∙ ap (key_held form (tree_held form b) level) (child_is form b n k 0 within),
       )
 
-  pub named_if : AreNamedFrom form b level n 0 → IsNamed form b (suc level) n
+  pub named_if : AreNamedFrom form b level n 0 → HasOwnKeys form b (suc level) n
   named_if each =
       let entries = entries_in form (block_at b n) in
       let long : length (map (λ (e : Entry). e.key) entries) ≡ count_in (block_at b n) =
@@ -48,7 +48,7 @@ module _ {X : Type 0} (form : Form X) (b : Blocks) (level n : ℕ) where
       let under : k < count_in (block_at b n) = omega (arith, within, long) in
       (keys_at k under).0 ∙ each k (omega arith) under ∙ sym (keys_at k under).1)
 
-  pub each_named : IsNamed form b (suc level) n → AreNamedFrom form b level n 0
+  pub each_named : HasOwnKeys form b (suc level) n → AreNamedFrom form b level n 0
   each_named named k from within = sym (keys_at k within).0 ∙ ap (λ (keys : List (List ℕ)). get_or keys k []) named ∙ (keys_at k within).1
 
 -- a leaf
@@ -75,7 +75,7 @@ module _ {X : Type 0} (form : Form X) (laws : IsForm form) (b : Blocks) (least :
   -- a node
   module _ (level : ℕ) (now : List ℕ) (marked : AreMarked seen (n ∷ []) now) where
     pub node_rules : (above : ℕ) (Key : ℕ → Type 0) (Done : Type 0) → level + 1 ≡ above → IsEntered form b least above left last n seen → Key above
-        → (Done ↔ (AreSound form b (half form level) level (last_below form b left) last (children form b n) now noted × AreNamedFrom form b level n 0))
+        → (Done ↔ (AreSound form b (min_records form level) level (last_below form b left) last (children form b n) now noted × AreNamedFrom form b level n 0))
         → Done ↔ (AreSound form b least above left last (n ∷ []) seen noted × Key above)
     node_rules zero Key Done up entered key below = absurd (omega (arith, up))
     node_rules (suc same) Key Done up entered key below =
@@ -112,12 +112,12 @@ pub record IsChild {X : Type 0} (form : Form X) (b : Blocks) (level n : ℕ) (la
   pub within : k < count
   pub child : c ≡ child_in form k bytes
   pub key_is : key ≡ key_in form k bytes
-  pub least_is : least ≡ half form level
+  pub least_is : least ≡ min_records form level
   pub end_is : end ≡ (k + 1 == count && last)
 
 module _ {X L : Type 0} (form : Form X) (laws : IsForm form) (Notes : L → List X → Type 0) (b : Blocks) (level n : ℕ) (before : Option ℕ) (last : Bool) (seen : List ℕ) (noted : List X) (left : Option ℕ) (now : List ℕ) (p : Passed X L) (k : ℕ) (to : AreVisitedTo form Notes b level n before last seen noted left now p k) where
   abbrev pub AllSound : Type 0
-  AllSound = AreSound form b (half form level) level before last (children form b n) seen noted × AreNamedFrom form b level n 0
+  AllSound = AreSound form b (min_records form level) level before last (children form b n) seen noted × AreNamedFrom form b level n 0
 
   -- its number is one of the pool
   pub child_used : (c : ℕ) (bytes : List ℕ) → bytes ≡ block_at b n → c ≡ child_in form k bytes → k < count_in bytes → AllSound → (1 ≤ c) × (c < pool_size b)
@@ -125,7 +125,7 @@ module _ {X L : Type 0} (form : Form X) (laws : IsForm form) (Notes : L → List
       let under : k < count_in (block_at b n) = subst (λ (xs : List ℕ). k < count_in xs) is within in
       let next = next_sound form laws Notes b level n before last seen noted left now p k to c (omega (arith, under, length-children form b n))
       (nth_child form b n k c bytes is child under) (length-children form b n) all.0 all.1 in
-      let used = sound_used form b (half form level) level left _ c now to.records next.0 in
+      let used = sound_used form b (min_records form level) level left _ c now to.records next.0 in
       (used.from, used.below)
 
   module _ (count : ℕ) (bytes key : List ℕ) (c least : ℕ) (end : Bool) (next : IsChild form b level n last k count bytes key c least end) where
@@ -153,7 +153,7 @@ module _ {X L : Type 0} (form : Form X) (laws : IsForm form) (Notes : L → List
     child_needed all =
         let found = next_sound form laws Notes b level n before last seen noted left now p k to c within nth (length-children form b n) all.0 all.1 in (
           subst (λ (m : ℕ). AreSound form b m level left end (c ∷ []) now to.records) (sym next.least_is)
-              (subst (λ (test : Bool). AreSound form b (half form level) level left test (c ∷ []) now to.records) end_same found.0),
+              (subst (λ (test : Bool). AreSound form b (min_records form level) level left test (c ∷ []) now to.records) end_same found.0),
           key_same ∙ found.1 ∙ child_same,
         )
 
@@ -163,7 +163,7 @@ module _ {X L : Type 0} (form : Form X) (laws : IsForm form) (Notes : L → List
         → AreVisitedTo form Notes b level n before last seen noted (Some c) after q (k + 1)
     child_done after q marked sound past =
         visited_more form laws Notes b level n before last seen noted left now p k to c within nth (length-children form b n) after q marked
-        (subst (λ (test : Bool). AreSound form b (half form level) level left test (c ∷ []) now to.records) (sym end_same)
+        (subst (λ (test : Bool). AreSound form b (min_records form level) level left test (c ∷ []) now to.records) (sym end_same)
         (subst (λ (m : ℕ). AreSound form b m level left end (c ∷ []) now to.records) next.least_is sound.0))
         (sym key_same ∙ sound.1 ∙ sym child_same) past
 

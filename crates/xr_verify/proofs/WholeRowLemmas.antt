@@ -5,17 +5,17 @@ use Rattle.std.proofs.lemmas.Bool.{cases_eq}
 use Rattle.std.proofs.lemmas.List.{length-append, length-map}
 use Rattle.std.specs.List.{flat_map}
 use Rattle.xr_base.specs.declared.geometry.TheConstants.{BLOCKS}
-use Rattle.xr_block.specs.Checks.{IsTestedNode, left_in, place_in, right_in}
+use Rattle.xr_block.specs.Checks.{IsCheckedNode, left_in, place_in, right_in}
 use Rattle.xr_kinds.specs.Form.{Form, IsForm, pointer_size}
 use Rattle.xr_pool.specs.Overlay.{AreWhole, Blocks, block_at, is_free, pool_size}
-use Rattle.xr_block.specs.Rows.{AreLinked, AreNamed, AreRowsOf, IsWholeLeaf, IsWholeNode, first_of, half, rows_from}
+use Rattle.xr_block.specs.Rows.{AreLinked, AreNamed, AreRowsOf, IsWholeLeaf, IsWholeNode, first_of, min_records, rows_from}
 use Rattle.xr_block.specs.Tree.{IsUsed, blocks_of, site_of, tree_held}
 use Rattle.xr_block.specs.TreeBlock.{Entry, Place, entries_in}
-use Rattle.xr_verify.specs.Visits.{AreTrees, AreVisited, Fits, IsNamed, IsTested, children, is_end}
+use Rattle.xr_verify.specs.Visits.{AreTrees, AreVisited, children, is_end, HasChildren, HasOwnKeys, IsChecked}
 use Rattle.xr_block.specs.CheckLaws.{Names}
-use Rattle.xr_block.specs.ItemCheckLaws.{leaf_read, leaf_tested, leaf_whole, node_read, node_tested, node_whole}
+use Rattle.xr_block.specs.ItemCheckLaws.{leaf_read, leaf_checked, leaf_whole, node_read, node_checked, node_whole}
 use Rattle.xr_block.specs.TimesLaws.{times_more, times_other, times_same}
-use Rattle.xr_verify.proofs.VisitLemmas.{half_fits, times-append}
+use Rattle.xr_verify.proofs.VisitLemmas.{min_records_fit, times-append}
 use Rattle.xr_block.specs.Times.{times}
 
 -- what is known of any overlay
@@ -42,7 +42,7 @@ module _ {X : Type 0} (form : Form X) (laws : IsForm form) (b : Blocks) (known :
   IsWholeAt least zero = IsWholeLeaf form (site_of b) (tree_held form b) least
   IsWholeAt least (suc level) = IsWholeNode form (site_of b) (tree_held form b) least
 
-  whole_at : (least level n : ℕ) → n < pool_size b → IsTested form b least level n
+  whole_at : (least level n : ℕ) → n < pool_size b → IsChecked form b least level n
       → IsWholeAt least level (place_in form n level (block_at b n)) (block_at b n)
   whole_at least zero n within tested =
       let block = known.whole n within in leaf_whole form laws (site_of b) least n (block_at b n) known.identified block.long block.are_bytes tested
@@ -52,19 +52,19 @@ module _ {X : Type 0} (form : Form X) (laws : IsForm form) (b : Blocks) (known :
 
   abbrev pub IsReadAt : ℕ → ℕ → Place → Type 0
   IsReadAt least level place =
-      IsTested form b least level place.number × (left_in form (block_at b place.number) ≡ place.left) × (right_in form (block_at b place.number) ≡ place.right)
+      IsChecked form b least level place.number × (left_in form (block_at b place.number) ≡ place.left) × (right_in form (block_at b place.number) ≡ place.right)
 
   read_at : (least level : ℕ) (place : Place) → place.number < pool_size b → place.level ≡ level → level < 2 ^ 16
       → Names (pointer_size form) place.left → Names (pointer_size form) place.right → IsWholeAt least level place (block_at b place.number)
       → IsReadAt least level place
   read_at least zero place within low few left right whole =
       let read = leaf_read form laws (site_of b) least place (block_at b place.number) known.identified whole in
-      (leaf_tested form laws (site_of b) least place (block_at b place.number) known.identified low whole, read.same_left left, read.same_right right)
+      (leaf_checked form laws (site_of b) least place (block_at b place.number) known.identified low whole, read.same_left left, read.same_right right)
   read_at least (suc level) place within same few left right whole =
       let block = known.whole place.number within in
       let node = node_read form laws (site_of b) least place (block_at b place.number) known.identified block.long whole in
-      let tested = node_tested form laws (site_of b) least place (block_at b place.number) known.identified block.long (omega (arith, same, few)) whole in (
-        subst (λ (l : ℕ). IsTestedNode form (site_of b) least place.number l (block_at b place.number)) same tested,
+      let tested = node_checked form laws (site_of b) least place (block_at b place.number) known.identified block.long (omega (arith, same, few)) whole in (
+        subst (λ (l : ℕ). IsCheckedNode form (site_of b) least place.number l (block_at b place.number)) same tested,
         node.read.same_left left,
         node.read.same_right right,
       )
@@ -106,7 +106,7 @@ module _ {X : Type 0} (form : Form X) (laws : IsForm form) (b : Blocks) (known :
   -- each block of a row is named by level
   abbrev pub AreNamedAt : ℕ → List ℕ → Type 0
   AreNamedAt level [] = ⊤
-  AreNamedAt level (n ∷ ns) = IsNamed form b level n × AreNamedAt level ns
+  AreNamedAt level (n ∷ ns) = HasOwnKeys form b level n × AreNamedAt level ns
 
   none_named : (row : List ℕ) → AreNamedAt zero row
   none_named [] = tt
@@ -161,7 +161,7 @@ module _ {X : Type 0} (form : Form X) (laws : IsForm form) (b : Blocks) (known :
   trees_whole least zero row trees =
       (linked_from least zero None row trees, both_used row [] (used_from least zero None true row trees) (λ n some. absurd (omega (arith, some))))
   trees_whole least (suc level) row trees =
-      let rest = trees_whole (half form level) level (flat_map (children form b) row) trees.1 in (
+      let rest = trees_whole (min_records form level) level (flat_map (children form b) row) trees.1 in (
         (linked_from least (suc level) None row trees.0, named_from least level None true row trees.0, rest.0),
         both_used row (blocks_of form b level (flat_map (children form b) row)) (used_from least (suc level) None true row trees.0) rest.1,
       )
@@ -173,7 +173,7 @@ module _ {X : Type 0} (form : Form X) (laws : IsForm form) (b : Blocks) (known :
   rows_whole least (suc level) row few used rows =
       let parts = split_used row (blocks_of form b level (flat_map (children form b) row)) used in (
         visited_from least (suc level) None row few parts.0 (named_at level row rows.1) tt tt rows.0,
-        rows_whole (half form level) level (flat_map (children form b) row) (omega (arith, few)) parts.1 rows.2,
+        rows_whole (min_records form level) level (flat_map (children form b) row) (omega (arith, few)) parts.1 rows.2,
       )
 
   -- each level has a block
@@ -190,7 +190,7 @@ module _ {X : Type 0} (form : Form X) (laws : IsForm form) (b : Blocks) (known :
         length-append (children form b n) (flat_map (children form b) ns),
       )
 
-  pub rows_many : (least level : ℕ) (row : List ℕ) → Fits least level → 1 ≤ length row
+  pub rows_many : (least level : ℕ) (row : List ℕ) → HasChildren least level → 1 ≤ length row
       → AreRowsOf form (site_of b) (block_at b) (tree_held form b) least level row → level + 1 ≤ length (blocks_of form b level row)
   unfolding AreRowsOf rows_from
   rows_many least zero row fits long rows = omega (arith, long, length-append row [])
@@ -200,5 +200,5 @@ module _ {X : Type 0} (form : Form X) (laws : IsForm form) (b : Blocks) (known :
         arith,
         long,
         length-append row (blocks_of form b level below),
-        rows_many (half form level) level below (half_fits form laws level) (first_children least level row fits long rows.0) rows.2,
+        rows_many (min_records form level) level below (min_records_fit form laws level) (first_children least level row fits long rows.0) rows.2,
       )

@@ -7,7 +7,7 @@ use Rattle.xr_pool.specs.Bits.{has_bit}
 use Rattle.xr_kinds.specs.Form.{Form, IsForm}
 use Rattle.xr_pool.specs.Overlay.{Blocks, is_free, pool_size}
 use Rattle.xr_block.specs.Tree.{IsTreeIn, IsUsed, least_of_root, tree_blocks}
-use Rattle.xr_verify.specs.Visits.{AreMarked, AreSound, Fits, mark}
+use Rattle.xr_verify.specs.Visits.{AreMarked, AreSound, mark, HasChildren}
 use Rattle.xr_block.specs.TimesLaws.{all_of, distinct_of, each_of, few_of, once_of, times_of, found_in}
 use Rattle.xr_verify.proofs.WholeRowLemmas.{AreKnown, rows_many, rows_whole, trees_whole}
 use Rattle.xr_block.specs.Times.{times}
@@ -30,7 +30,7 @@ mark_small : (bit : Bool) → (if bit then 1 else 0) ≤ 1
 mark_small true = omega arith
 mark_small false = omega arith
 
-pub root_fits : (level : ℕ) → Fits (least_of_root level) level
+pub root_fits : (level : ℕ) → HasChildren (least_of_root level) level
 root_fits zero = tt
 root_fits (suc level) = omega arith
 

@@ -1,4 +1,4 @@
--- Where neighbours agree all do: runs in the order of their blocks, and extents in that of their offsets.
+-- Where siblings agree all do: runs in the order of their blocks, and extents in that of their offsets.
 use Rattle.std.proofs.Common.{◌≡◌, ℕ, ◌<◌, true, sym, arith}
 use Rattle.std.proofs.lemmas.Bool.Decides.{nat_tests}
 use Rattle.std.proofs.lemmas.Cmp.{ranked}

@@ -3,37 +3,37 @@
 use Rattle.std.specs.Prelude.{◌≡◌, ℕ, zero, suc, ◌+◌, ◌-◌, ◌<◌, ◌≤◌, ◌&&◌, ⊤, Bool, true, false, nat_le, nat_lt, if◌then◌else◌, IfSome, Option, Some, None, List, [], ◌∷◌, ◌++◌, length, map}
 use Rattle.std.specs.List.{flat_map}
 use Rattle.xr_pool.specs.Bits.{has_bit}
-use Rattle.xr_block.specs.Checks.{IsTestedLeaf, IsTestedNode, left_in, right_in}
+use Rattle.xr_block.specs.Checks.{IsCheckedLeaf, IsCheckedNode, left_in, right_in}
 use Rattle.xr_kinds.specs.Form.{Form}
 use Rattle.xr_block.specs.NodeEntries.{child_in, key_in}
 use Rattle.xr_pool.specs.Overlay.{Blocks, block_at, is_free, pool_size}
-use Rattle.xr_block.specs.Rows.{half, key_held, named_below}
+use Rattle.xr_block.specs.Rows.{min_records, key_held, named_below}
 use Rattle.xr_block.specs.Times.{times}
 use Rattle.xr_block.specs.Tree.{AreRecords, IsUsed, blocks_of, records_of, site_of, tree_held}
 use Rattle.xr_block.specs.TreeBlock.{Entry, count_in, entries_in}
 
-abbrev pub IsTested : {X : Type 0} → Form X → Blocks → ℕ → ℕ → ℕ → Type 0
-IsTested form b least zero n = IsTestedLeaf form (site_of b) least n (block_at b n)
-IsTested form b least (suc level) n = IsTestedNode form (site_of b) least n (suc level) (block_at b n)
+abbrev pub IsChecked : {X : Type 0} → Form X → Blocks → ℕ → ℕ → ℕ → Type 0
+IsChecked form b least zero n = IsCheckedLeaf form (site_of b) least n (block_at b n)
+IsChecked form b least (suc level) n = IsCheckedNode form (site_of b) least n (suc level) (block_at b n)
 
 -- the children of a node
 abbrev pub children : {X : Type 0} → Form X → Blocks → ℕ → List ℕ
 children form b n = named_below (tree_held form b) n
 
 -- a node gives each child the key that it has
-abbrev pub IsNamed : {X : Type 0} → Form X → Blocks → ℕ → ℕ → Type 0
-IsNamed form b zero n = ⊤
-IsNamed form b (suc level) n =
+abbrev pub HasOwnKeys : {X : Type 0} → Form X → Blocks → ℕ → ℕ → Type 0
+HasOwnKeys form b zero n = ⊤
+HasOwnKeys form b (suc level) n =
     map (λ (e : Entry). e.key) (entries_in form (block_at b n)) ≡ map (key_held form (tree_held form b) level) (children form b n)
 
--- the left neighbour of a block's first child is the last child of its own left neighbour
+-- the left sibling of a block's first child is the last child of its own left sibling
 abbrev pub last_below : {X : Type 0} → Form X → Blocks → Option ℕ → Option ℕ
 last_below form b None = None
 last_below form b (Some m) =
     let count : ℕ = count_in (block_at b m) in
     if nat_lt m (pool_size b) && nat_lt 0 count && nat_le count form.node_max then Some (child_in form (count - 1) (block_at b m)) else None
 
--- the block visited before one in its level names it as its right neighbour
+-- the block visited before one in its level names it as its right sibling
 abbrev pub IsBack : {X : Type 0} → Form X → Blocks → Option ℕ → ℕ → Type 0
 IsBack form b left n = IfSome left (λ m. (m < pool_size b) × (right_in form (block_at b m) ≡ Some n))
 
@@ -44,9 +44,9 @@ AreNamedFrom form b level n from =
     → key_in form k (block_at b n) ≡ key_held form (tree_held form b) level (child_in form k (block_at b n))
 
 -- a node has a child at least
-abbrev pub Fits : ℕ → ℕ → Type 0
-Fits least zero = ⊤
-Fits least (suc level) = 1 ≤ least
+abbrev pub HasChildren : ℕ → ℕ → Type 0
+HasChildren least zero = ⊤
+HasChildren least (suc level) = 1 ≤ least
 
 -- a block of a level, between the block visited before it, if there is one, and the next one, unless it is the last
 pub record IsLinked {X : Type 0} (form : Form X) (b : Blocks) (left : Option ℕ) (last : Bool) (n : ℕ) : Type 0 where
@@ -56,9 +56,9 @@ pub record IsLinked {X : Type 0} (form : Form X) (b : Blocks) (left : Option ℕ
 
 pub record IsVisited {X : Type 0} (form : Form X) (b : Blocks) (least level : ℕ) (left : Option ℕ) (last : Bool) (n : ℕ) : Type 0 where
   pub used : IsUsed (is_free b) (pool_size b) n
-  pub tested : IsTested form b least level n
+  pub tested : IsChecked form b least level n
   pub linked : IsLinked form b left last n
-  pub named : IsNamed form b level n
+  pub named : HasOwnKeys form b level n
 
 abbrev pub is_end : List ℕ → Bool
 is_end [] = true
@@ -74,14 +74,14 @@ unfoldable pub AreTrees : {X : Type 0} → Form X → Blocks → ℕ → ℕ →
 AreTrees form b least zero left last row = AreVisited form b least zero left last row
 AreTrees form b least (suc level) left last row =
     AreVisited form b least (suc level) left last row
-    × AreTrees form b (half form level) level (last_below form b left) last (flat_map (children form b) row)
+    × AreTrees form b (min_records form level) level (last_below form b left) last (flat_map (children form b) row)
 
 -- whether a block is marked
 abbrev pub mark : List ℕ → ℕ → ℕ
 mark seen n = if has_bit seen n then 1 else 0
 
 -- a block that belongs to no tree yet, and isn't free
-pub record IsOpen (b : Blocks) (n : ℕ) (seen : List ℕ) : Type 0 where
+pub record IsUnvisited (b : Blocks) (n : ℕ) (seen : List ℕ) : Type 0 where
   pub taken : is_free b n ≡ false
   pub unmarked : has_bit seen n ≡ false
 
@@ -89,7 +89,7 @@ pub record IsOpen (b : Blocks) (n : ℕ) (seen : List ℕ) : Type 0 where
 pub record IsEntered {X : Type 0} (form : Form X) (b : Blocks) (least level : ℕ) (left : Option ℕ) (last : Bool) (n : ℕ) (seen : List ℕ) : Type 0 where
   pub used : IsUsed (is_free b) (pool_size b) n
   pub unmarked : has_bit seen n ≡ false
-  pub tested : IsTested form b least level n
+  pub tested : IsChecked form b least level n
   pub linked : IsLinked form b left last n
 
 -- no block stands twice or was marked before

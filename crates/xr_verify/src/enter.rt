@@ -5,9 +5,9 @@ ghost use Rattle.xr_kinds.specs.Form.{key_size};
 ghost use Rattle.xr_pool.specs.Overlay.{block_at, is_free, pool_size};
 ghost use Rattle.xr_block.specs.Rows.{key_held};
 ghost use Rattle.xr_block.specs.Tree.{tree_held};
-ghost use Rattle.xr_verify.specs.Visits.{AreMarked, IsOpen, IsTested};
+ghost use Rattle.xr_verify.specs.Visits.{AreMarked, IsUnvisited, IsChecked};
 
-use xr_block::check::{test_leaf, test_node};
+use xr_block::check::{check_leaf, check_node};
 use xr_block::fault::TreeKind;
 use xr_block::key::{is_key_of_leaf, is_key_of_node};
 use xr_block::read::count_of;
@@ -19,7 +19,7 @@ use xr_pool::bits::{has_bit, set_bit};
 fn mark(over: &Overlay, n: u32, seen: &mut [u8]) -> Result<(), TreeKind>
     requires within { n < pool_size over.now }
     requires room { pool_size over.now ≤ 8 * length seen.old }
-    ensures open { IsOk result ↔ IsOpen over.now n seen.old }
+    ensures open { IsOk result ↔ IsUnvisited over.now n seen.old }
     ensures marked { IsOk result → AreMarked seen.old (n ∷ []) seen.new }
     ensures long { length seen.new ≡ length seen.old }
 {
@@ -31,22 +31,22 @@ fn mark(over: &Overlay, n: u32, seen: &mut [u8]) -> Result<(), TreeKind>
 }
 
 /// Tests a block by itself.
-fn test_block<R: Record>(over: &Overlay, n: u32, level: u32, least: usize) -> Result<(), TreeKind>
+fn check_block<R: Record>(over: &Overlay, n: u32, level: u32, least: usize) -> Result<(), TreeKind>
     requires within { n < pool_size over.now }
-    ensures { IsOk result ↔ IsTested R.form over.now least level n }
+    ensures { IsOk result ↔ IsChecked R.form over.now least level n }
 {
     let block = over.block(n);
     if level == 0 {
-        test_leaf::<R>(over, n, least, block)
+        check_leaf::<R>(over, n, least, block)
     } else {
-        test_node::<R>(over, n, level, least, block)
+        check_node::<R>(over, n, level, least, block)
     }
 }
 
 /// Whether a tested block has a key.
 fn has_key<R: Record>(over: &Overlay, n: u32, level: u32, key: &[u8]) -> bool
     requires within { n < pool_size over.now }
-    requires tested { (least : ℕ) × IsTested R.form over.now least level n }
+    requires tested { (least : ℕ) × IsChecked R.form over.now least level n }
     requires long { length key.now ≡ key_size R.form }
     ensures { IsTrue result ↔ key.now ≡ key_held R.form (tree_held R.form over.now) level n }
 {
@@ -63,7 +63,7 @@ fn has_key<R: Record>(over: &Overlay, n: u32, level: u32, key: &[u8]) -> bool
 /// Whether a tested block has the key that its parent gives, if it has a parent.
 pub(crate) fn is_named<R: Record>(over: &Overlay, n: u32, level: u32, key: Option<&[u8]>) -> bool
     requires within { n < pool_size over.now }
-    requires tested { (least : ℕ) × IsTested R.form over.now least level n }
+    requires tested { (least : ℕ) × IsChecked R.form over.now least level n }
     requires long { IfSome key (λ k. length k.now ≡ key_size R.form) }
     ensures { IsTrue result ↔ IfSome key.entry (λ k. k.now ≡ key_held R.form (tree_held R.form over.now) level n) }
 {
@@ -83,10 +83,10 @@ pub(crate) fn open<R: Record>(
 ) -> Result<(), TreeKind>
     requires within { n < pool_size over.now }
     requires room { pool_size over.now ≤ 8 * length seen.old }
-    ensures tests { IsOk result ↔ (IsOpen over.now n seen.old × IsTested R.form over.now least level n) }
+    ensures tests { IsOk result ↔ (IsUnvisited over.now n seen.old × IsChecked R.form over.now least level n) }
     ensures marked { IsOk result → AreMarked seen.old (n ∷ []) seen.new }
     ensures long { length seen.new ≡ length seen.old }
 {
     mark(over, n, seen)?;
-    test_block::<R>(over, n, level, least)
+    check_block::<R>(over, n, level, least)
 }

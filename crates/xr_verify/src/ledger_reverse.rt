@@ -12,7 +12,7 @@ use xr_kinds::Reverse;
 /// file has.
 pub(crate) const LINES: usize = FILES as usize * GROUP_BLOCKS as usize;
 
-/// For each line the block behind its last run.
+/// For each line the block after its last run.
 #[derive(Drop)]
 pub struct ReverseLedger {
     ends: [u16; LINES],

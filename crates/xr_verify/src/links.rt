@@ -1,6 +1,6 @@
 //! How a block is linked to those beside it in its level, and how the block that is visited before one is found.
 ghost use Rattle.std.specs.Prelude.{◌≡◌, ◌+◌, ◌<◌, ◌≤◌, ◌↔◌, IsTrue, drop};
-ghost use Rattle.xr_block.specs.Checks.{left_in, neighbour_in, right_in};
+ghost use Rattle.xr_block.specs.Checks.{left_in, sibling_in, right_in};
 ghost use Rattle.xr_kinds.specs.Form.{pointer_size};
 ghost use Rattle.xr_pool.specs.Overlay.{block_at, pool_size};
 ghost use Rattle.xr_verify.specs.Visits.{IsBack, IsLinked, last_below};
@@ -10,7 +10,7 @@ use xr_block::siblings::{left_of, right_of};
 use xr_kinds::Record;
 use xr_pool::Overlay;
 
-/// Whether the block that was visited before this one in its level, if there is one, names it as its right neighbour.
+/// Whether the block that was visited before this one in its level, if there is one, names it as its right sibling.
 fn is_back<R: Record>(over: &Overlay, left: Option<u64>, n: u32) -> bool
     ensures { IsTrue result ↔ IsBack R.form over.now left n }
 {
@@ -23,7 +23,7 @@ fn is_back<R: Record>(over: &Overlay, left: Option<u64>, n: u32) -> bool
     }
 }
 
-/// Whether a block is linked to the one that was visited before it in its level, and to none behind it if it is the last.
+/// Whether a block is linked to the one that was visited before it in its level, and to none after it if it is the last.
 pub(crate) fn is_linked<R: Record>(over: &Overlay, left: Option<u64>, last: bool, n: u32) -> bool
     requires { n < pool_size over.now }
     ensures { IsTrue result ↔ IsLinked R.form over.now left last n }

@@ -9,7 +9,7 @@ ghost use Rattle.xr_block.specs.TreeBlock.{count_in, records_in};
 
 use crate::ledger::Ledger;
 use xr_block::fault::TreeKind;
-use xr_block::read::{count_of, tested_record};
+use xr_block::read::{checked_record, count_of};
 use xr_kinds::Record;
 use xr_pool::Block;
 
@@ -38,7 +38,7 @@ fn climb<R: Record>(block: &Block, last: Option<R>) -> bool
 {
     let mut before = last;
     for k in 0..count_of(block) {
-        let record = tested_record::<R>(block, k);
+        let record = checked_record::<R>(block, k);
         if !is_above(before, &record) {
             return false;
         }
@@ -54,7 +54,7 @@ fn merge<R: Record, L: Ledger<R>>(block: &Block, ledger: &mut L) -> bool
     ensures noted { (noted : List R) → L.notes ledger.old noted → ArePassed R.form noted → Climb R.form (last_or None noted) (records_in R.form block.now) → IsTrue result → L.notes ledger.new (noted ++ records_in R.form block.now) }
 {
     for k in 0..count_of(block) {
-        let record = tested_record::<R>(block, k);
+        let record = checked_record::<R>(block, k);
         if !ledger.admits(&record) {
             return false;
         }
@@ -72,7 +72,7 @@ fn last_record<R: Record>(block: &Block, before: Option<R>) -> Option<R>
     if count == 0 {
         before
     } else {
-        Some(tested_record::<R>(block, count - 1))
+        Some(checked_record::<R>(block, count - 1))
     }
 }
 

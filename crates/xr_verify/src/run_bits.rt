@@ -4,7 +4,7 @@ ghost use Rattle.xr_pool.specs.Bits.{has_bit};
 
 use xr_pool::bits::{has_bit, set_bit};
 
-/// Bytes of a map with a bit for each block of a group, and one for the block behind the last.
+/// Bytes of a map with a bit for each block of a group, and one for the block after the last.
 pub(crate) const MAP_BYTES: usize = 257;
 
 /// A map with no bit set.

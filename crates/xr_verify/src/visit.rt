@@ -7,10 +7,10 @@ ghost use Rattle.xr_kinds.specs.Form.{key_size};
 ghost use Rattle.xr_block.specs.NodeEntries.{key_in};
 ghost use Rattle.xr_pool.specs.Overlay.{block_at, pool_size};
 ghost use Rattle.xr_verify.specs.Passed.{IsPast};
-ghost use Rattle.xr_block.specs.Rows.{half, key_held};
+ghost use Rattle.xr_block.specs.Rows.{min_records, key_held};
 ghost use Rattle.xr_block.specs.Tree.{AreRecords, IsTreeIn, blocks_of, least_of_root, records_of, tree_blocks, tree_held};
 ghost use Rattle.xr_block.specs.TreeBlock.{count_in, records_in};
-ghost use Rattle.xr_verify.specs.Visits.{AreMarked, AreNamedFrom, AreSound, Fits, IsEntered, IsLinked, IsTested, children, last_below};
+ghost use Rattle.xr_verify.specs.Visits.{AreMarked, AreNamedFrom, AreSound, IsEntered, IsLinked, children, last_below, HasChildren, IsChecked};
 
 use crate::enter::{is_named, open};
 use crate::ledger::{Kept, Ledger};
@@ -31,15 +31,15 @@ pub(crate) struct Spot {
     last: bool,
 }
 
-/// Whether an open block has the key that its parent gives, and is linked to its neighbours.
-fn test_place<R: Record>(
+/// Whether an open block has the key that its parent gives, and is linked to its siblings.
+fn check_place<R: Record>(
     over: &Overlay,
     level: u32,
     spot: Spot,
     key: Option<&[u8]>,
 ) -> Result<(), TreeKind>
     requires within { spot.number < pool_size over.now }
-    requires tested { (least : ℕ) × IsTested R.form over.now least level spot.number }
+    requires tested { (least : ℕ) × IsChecked R.form over.now least level spot.number }
     requires long { IfSome key (λ k. length k.now ≡ key_size R.form) }
     ensures { IsOk result ↔ (IfSome key.entry (λ k. k.now ≡ key_held R.form (tree_held R.form over.now) level spot.number) × IsLinked R.form over.now spot.left spot.last spot.number) }
 {
@@ -72,7 +72,7 @@ fn enter_leaf<R: Record, L: Ledger<R>>(
     open::<R>(over, spot.number, 0, spot.least, seen)?;
     let block = over.block(spot.number);
     passed.pass(block)?;
-    test_place::<R>(over, 0, spot, key)?;
+    check_place::<R>(over, 0, spot, key)?;
     passed.take_room(record_count::<R>(block))
 }
 
@@ -93,7 +93,7 @@ fn enter_node<R: Record>(
     ensures long { length seen.new ≡ length seen.old }
 {
     open::<R>(over, spot.number, level, spot.least, seen)?;
-    test_place::<R>(over, level, spot, key)
+    check_place::<R>(over, level, spot, key)
 }
 
 /// What is wrong with a block, with the image block that shows it.
@@ -129,10 +129,10 @@ fn in_pool(over: &Overlay, n: u32, pointer: u64) -> Result<u32, TreeFault>
 }
 
 /// The least number of items of a block that has a parent.
-#[tactic(auto, unfolding(xr_block::specs::Rows::half))]
+#[tactic(auto, unfolding(xr_block::specs::Rows::min_records))]
 fn least_below<R: Record>(level: u32) -> usize
-    ensures value { result ≡ half R.form level }
-    ensures some { Fits result level }
+    ensures value { result ≡ min_records R.form level }
+    ensures some { HasChildren result level }
 {
     if level == 0 {
         R::LEAF_MAX as usize / 2
@@ -170,7 +170,7 @@ fn visit_children<R: Record, L: Ledger<R>>(
     requires within { node.number < pool_size over.now }
     requires few { count_in (block_at over.now node.number) ≤ R.form.node_max }
     requires room { pool_size over.now ≤ 8 * length seen.old }
-    ensures rules { (noted : List R) → IsPast R.form L.notes passed.old noted → (IsOk result ↔ (AreSound R.form over.now (half R.form level) level (last_below R.form over.now node.left) node.last (children R.form over.now node.number) seen.old noted × AreNamedFrom R.form over.now level node.number 0)) }
+    ensures rules { (noted : List R) → IsPast R.form L.notes passed.old noted → (IsOk result ↔ (AreSound R.form over.now (min_records R.form level) level (last_below R.form over.now node.left) node.last (children R.form over.now node.number) seen.old noted × AreNamedFrom R.form over.now level node.number 0)) }
     ensures past { (noted : List R) → IsPast R.form L.notes passed.old noted → IsOk result → IsPast R.form L.notes passed.new (noted ++ records_of R.form over.now level (children R.form over.now node.number)) }
     ensures marked { IsOk result → AreMarked seen.old (blocks_of R.form over.now level (children R.form over.now node.number)) seen.new }
     ensures long { length seen.new ≡ length seen.old }
@@ -211,7 +211,7 @@ fn visit<R: Record, L: Ledger<R>>(
 ) -> Result<(), TreeFault>
     requires from { 1 ≤ spot.number }
     requires within { spot.number < pool_size over.now }
-    requires some { Fits spot.least level }
+    requires some { HasChildren spot.least level }
     requires room { pool_size over.now ≤ 8 * length seen.old }
     requires long { IfSome key (λ k. length k.now ≡ key_size R.form) }
     ensures rules { (noted : List R) → IsPast R.form L.notes passed.old noted → (IsOk result ↔ (AreSound R.form over.now spot.least level spot.left spot.last (spot.number ∷ []) seen.old noted × IfSome key.entry (λ k. k.now ≡ key_held R.form (tree_held R.form over.now) level spot.number))) }
@@ -229,13 +229,13 @@ fn visit<R: Record, L: Ledger<R>>(
     }
 }
 
-/// Where a root stands: it has no neighbours, and two children at least if it is a node.
+/// Where a root stands: it has no siblings, and two children at least if it is a node.
 fn root_spot(root: u32, level: u32) -> Spot
     ensures number { result.number ≡ root }
     ensures least { result.least ≡ least_of_root level }
     ensures left { result.left ≡ None }
     ensures last { result.last ≡ true }
-    ensures some { Fits result.least level }
+    ensures some { HasChildren result.least level }
 {
     Spot {
         number: root,

@@ -20,7 +20,7 @@ loop-k-init g c =
     let long : length records ≡ k + 1 = omega (arith, counted, c.count_of-k.ensures.count, c.requires.some) in (
       omega (arith, c.count_of-k.ensures.count, c.requires.some),
       c.requires.next_room,
-      greatest_last form.high_of records k c.put_high.new.out long (λ d. c.put_high.ensures ∙ ap form.high_of (c.tested_record.ensures.value d)),
+      greatest_last form.high_of records k c.put_high.new.out long (λ d. c.put_high.ensures ∙ ap form.high_of (c.checked_record.ensures.value d)),
     )
 
 pub loop-k-preserved : goal.loop-k-preserved
@@ -33,5 +33,5 @@ loop-k-preserved g c =
       omega (arith, before.0),
       c.put_high-in-loop-k.auto.out ∙ before.1,
       c.keep_greater.ensures ∙ greatest_more form.high_of records k (k - 1) c.put_high-in-loop-k.new.out c.loop-k.out (omega (arith, c.loop-k-test.true))
-          (omega (arith, counted, before.0)) (λ d. c.put_high-in-loop-k.ensures ∙ ap form.high_of (c.tested_record-in-loop-k.ensures.value d)) before.2,
+          (omega (arith, counted, before.0)) (λ d. c.put_high-in-loop-k.ensures ∙ ap form.high_of (c.checked_record-in-loop-k.ensures.value d)) before.2,
     )

@@ -11,5 +11,5 @@ returns g c =
     let records = records_in form block in
     let counted = records_count form g.met.R.Record.is_form block c.told-block c.fits-block c.requires.tested in
     ap (λ (xs : List ℕ). xs ++ c.put_greatest.new.out) c.put_low.ensures
-    ∙ ap (λ (xs : List ℕ). form.low_of c.tested_record.result ++ xs) c.put_greatest.ensures
-    ∙ sym (records_key form records c.tested_record.result (omega (arith, counted, c.requires.some)) c.tested_record.ensures.value)
+    ∙ ap (λ (xs : List ℕ). form.low_of c.checked_record.result ++ xs) c.put_greatest.ensures
+    ∙ sym (records_key form records c.checked_record.result (omega (arith, counted, c.requires.some)) c.checked_record.ensures.value)

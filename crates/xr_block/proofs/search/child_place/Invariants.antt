@@ -4,7 +4,7 @@ use Rattle.xr_block.specs.TreeBlock.{entries_in}
 use Rattle.xr_block.proofs.search.child_place.Given as goal
 
 abbrev pub invariant-loop-low : goal.invariant-loop-low
-invariant-loop-low g l = IsBetween (entry_is_before g.R.Record.form l.cut) (entries_in g.R.Record.form l.block) l.low l.high
+invariant-loop-low g l = IsBetween (entry_is_before g.R.Record.form l.bound) (entries_in g.R.Record.form l.block) l.low l.high
 
 abbrev pub decreases-loop-low : goal.decreases-loop-low
 decreases-loop-low g l = l.high - l.low

@@ -12,7 +12,7 @@ returns-in-Some g c = λ d.
     let read = record_read form c.args.block.now c.args.k c.requires.leaf c.requires.within
     ∙ slice_get-get_or records c.args.k d (omega (arith, c.requires.leaf.counted)) in
     let same : c.in-Some.record ≡ get_or records c.args.k d = cc read in
-    c.passes.ensures ∙ ap (is_before form c.args.cut.now) same
+    c.passes.ensures ∙ ap (is_before form c.args.bound.now) same
 
 pub returns-in-None : goal.returns-in-None
 returns-in-None g c = λ d.

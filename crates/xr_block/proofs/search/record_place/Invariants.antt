@@ -4,7 +4,7 @@ use Rattle.xr_block.specs.TreeBlock.{records_in}
 use Rattle.xr_block.proofs.search.record_place.Given as goal
 
 abbrev pub invariant-loop-low : goal.invariant-loop-low
-invariant-loop-low g l = IsBetween (is_before g.R.Record.form l.cut) (records_in g.R.Record.form l.block) l.low l.high
+invariant-loop-low g l = IsBetween (is_before g.R.Record.form l.bound) (records_in g.R.Record.form l.block) l.low l.high
 
 abbrev pub decreases-loop-low : goal.decreases-loop-low
 decreases-loop-low g l = l.high - l.low

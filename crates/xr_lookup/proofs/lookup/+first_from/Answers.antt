@@ -4,7 +4,7 @@ use Rattle.xr_lookup.specs.Lookup.{is_wanted}
 use Rattle.xr_pool.specs.Overlay.{block_at}
 use Rattle.xr_block.specs.Tree.{tree_records}
 use Rattle.xr_block.specs.TreeBlock.{Entry, entries_in}
-use Rattle.xr_lookup.proofs.DescentLemmas.{behind_in_node, found_behind, found_under, nothing_under}
+use Rattle.xr_lookup.proofs.DescentLemmas.{after_in_node, found_after, found_under, nothing_under}
 use Rattle.xr_lookup.proofs.lookup.+first_from.Goals as goal
 
 pub loop-k-init : goal.loop-k-init
@@ -13,7 +13,7 @@ loop-k-init g t c =
     let b = c.args.over.now in
     ap (λ (k : ℕ). find (is_wanted form c.args.wanted.now) (flat_map (λ (e : Entry). tree_records form b e.child (c.args.level - 1)) (drop k (entries_in form (block_at b c.args.n)))))
     c.saturating_sub-start.ensures
-    ∙ behind_in_node form g.met.R.Record.is_form b c.args.level (c.args.level - 1) c.args.n (omega arith) c.requires c.args.wanted.now c.children_before.result
+    ∙ after_in_node form g.met.R.Record.is_form b c.args.level (c.args.level - 1) c.args.n (omega arith) c.requires c.args.wanted.now c.children_before.result
     c.children_before.ensures
 
 pub returns-then-is_some : goal.returns-then-is_some
@@ -24,7 +24,7 @@ returns-then-is_some g t c =
 
 pub loop-k-preserved : goal.loop-k-preserved
 loop-k-preserved g t c =
-    found_behind g.R.Record.form g.met.R.Record.is_form c.args.over.now c.args.level (c.args.level - 1) c.args.n (omega arith) c.requires c.args.wanted.now c.loop-k.k
+    found_after g.R.Record.form g.met.R.Record.is_form c.args.over.now c.args.level (c.args.level - 1) c.args.n (omega arith) c.requires c.args.wanted.now c.loop-k.k
     c.child_of-child.result c.first_from-found.result (omega arith) c.child_of-child.ensures.child c.first_from-found.ensures (sym c.is_some.ensures ∙ c.if-is_some.false)
     ∙ c.loop-k.invariant
 

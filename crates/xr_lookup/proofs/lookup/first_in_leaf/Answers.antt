@@ -4,12 +4,12 @@ use Rattle.std.specs.List.{find}
 use Rattle.xr_lookup.specs.Lookup.{is_wanted}
 use Rattle.xr_pool.specs.Overlay.{block_at}
 use Rattle.xr_block.specs.TreeBlock.{records_in}
-use Rattle.xr_lookup.proofs.DescentLemmas.{behind_in_leaf}
+use Rattle.xr_lookup.proofs.DescentLemmas.{after_in_leaf}
 use Rattle.xr_block.specs.PartLaws.{found_here, passed_here, present}
 use Rattle.xr_lookup.proofs.lookup.first_in_leaf.Goals as goal
 
 pub loop-k-init : goal.loop-k-init
-loop-k-init g c = behind_in_leaf g.R.Record.form c.args.over.now c.args.n c.args.wanted.now c.records_before-k.result c.records_before-k.ensures
+loop-k-init g c = after_in_leaf g.R.Record.form c.args.over.now c.args.n c.args.wanted.now c.records_before-k.result c.records_before-k.ensures
 
 pub returns-in_err-record : goal.returns-in_err-record
 returns-in_err-record g c =

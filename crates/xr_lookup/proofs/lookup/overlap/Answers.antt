@@ -8,7 +8,7 @@ pub returns : goal.returns
 returns g c =
     let form = g.R.Record.form in
     let records = tree_records form c.args.over.now c.args.root c.args.level in
-    let test = is_wanted form (record { from = c.behind.result; meeting = Some c.args.with.now }) in
-    subst (λ wanted. FindsLeast form records wanted c.first_from.result) (overlaps_is form c.args.with.now c.args.after c.behind.result c.behind.ensures)
+    let test = is_wanted form (record { from = c.bound_after.result; meeting = Some c.args.with.now }) in
+    subst (λ wanted. FindsLeast form records wanted c.first_from.result) (overlaps_is form c.args.with.now c.args.after c.bound_after.result c.bound_after.ensures)
     (subst (FindsLeast form records test) (sym c.first_from.ensures)
     (least_found form g.met.R.Record.is_form test records c.requires.tree.records.ascend))

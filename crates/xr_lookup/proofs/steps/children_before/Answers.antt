@@ -16,5 +16,5 @@ child_place-requires-clause-few g c =
 pub child_place-requires-clause-parted : goal.child_place-requires-clause-parted
 child_place-requires-clause-parted g c =
     let form = g.R.Record.form in
-    subst (λ (bytes : List ℕ). IsParted (entry_is_before form c.args.cut.now) (entries_in form bytes)) (sym c.block.ensures)
-    (node_parted form g.met.R.Record.is_form c.args.over.now (c.args.level + 1) c.args.level c.args.n (omega arith) c.requires c.args.cut.now)
+    subst (λ (bytes : List ℕ). IsParted (entry_is_before form c.args.bound.now) (entries_in form bytes)) (sym c.block.ensures)
+    (node_parted form g.met.R.Record.is_form c.args.over.now (c.args.level + 1) c.args.level c.args.n (omega arith) c.requires c.args.bound.now)

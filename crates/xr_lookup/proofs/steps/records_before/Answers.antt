@@ -16,5 +16,5 @@ record_place-requires-clause-leaf g c =
 pub record_place-requires-clause-parted : goal.record_place-requires-clause-parted
 record_place-requires-clause-parted g c =
     let form = g.R.Record.form in
-    subst (λ (bytes : List ℕ). IsParted (is_before form c.args.cut.now) (records_in form bytes)) (sym c.block.ensures)
-    (leaf_parted form g.met.R.Record.is_form c.args.over.now c.args.n c.requires c.args.cut.now)
+    subst (λ (bytes : List ℕ). IsParted (is_before form c.args.bound.now) (records_in form bytes)) (sym c.block.ensures)
+    (leaf_parted form g.met.R.Record.is_form c.args.over.now c.args.n c.requires c.args.bound.now)

@@ -14,5 +14,5 @@ pub returns-else-count-eq0 : goal.returns-else-count-eq0
 returns-else-count-eq0 g c =
     let form = g.R.Record.form in
     let counted = records_count form g.met.R.Record.is_form c.args.block.now c.told-block c.fits-block c.requires in
-    last_is c.args.before (records_in form c.args.block.now) (c.count_of-count.result - 1) c.tested_record.result
-    (omega (arith, counted, c.count_of-count.ensures.count, c.if-count-eq0.false)) c.tested_record.ensures.value
+    last_is c.args.before (records_in form c.args.block.now) (c.count_of-count.result - 1) c.checked_record.result
+    (omega (arith, counted, c.count_of-count.ensures.count, c.if-count-eq0.false)) c.checked_record.ensures.value

@@ -9,12 +9,12 @@ returns-then-not-admits-clause-agree g c = λ noted notes passed climb.
     let form = g.R.Record.form in
     let laws = g.met.R.Record.is_form in
     let records = records_in form c.args.block.now in
-    let record_is = c.tested_record-record.ensures in
+    let record_is = c.checked_record-record.ensures in
     let k = c.loop-k.k in
     let merged = c.loop-k.invariant noted notes passed climb in
     let within : c.loop-k.k < length records = omega (arith, records_count form laws c.args.block.now c.told-block c.fits-block c.requires, c.count_of-k-end.ensures.count, c.loop-k-test.true) in
-    let next = merged_next form laws g.L.Ledger.notes c.loop-k.ledger noted records k merged c.tested_record-record.result within record_is.value record_is.valid in
-    let not = merged_not form laws g.L.Ledger.notes c.loop-k.ledger noted records k merged c.tested_record-record.result within record_is.value record_is.valid in
+    let next = merged_next form laws g.L.Ledger.notes c.loop-k.ledger noted records k merged c.checked_record-record.result within record_is.value record_is.valid in
+    let not = merged_not form laws g.L.Ledger.notes c.loop-k.ledger noted records k merged c.checked_record-record.result within record_is.value record_is.valid in
     (λ no. absurd cc, λ all. sym c.if-not-admits.true ∙ (c.admits.ensures merged.past merged.notes next).1 (not all))
 
 pub loop-k-preserved : goal.loop-k-preserved
@@ -22,13 +22,13 @@ loop-k-preserved g c = λ noted notes passed climb.
     let form = g.R.Record.form in
     let laws = g.met.R.Record.is_form in
     let records = records_in form c.args.block.now in
-    let record_is = c.tested_record-record.ensures in
+    let record_is = c.checked_record-record.ensures in
     let k = c.loop-k.k in
     let merged = c.loop-k.invariant noted notes passed climb in
     let within : c.loop-k.k < length records = omega (arith, records_count form laws c.args.block.now c.told-block c.fits-block c.requires, c.count_of-k-end.ensures.count, c.loop-k-test.true) in
-    let next = merged_next form laws g.L.Ledger.notes c.loop-k.ledger noted records k merged c.tested_record-record.result within record_is.value record_is.valid in
+    let next = merged_next form laws g.L.Ledger.notes c.loop-k.ledger noted records k merged c.checked_record-record.result within record_is.value record_is.valid in
     let agrees = (c.admits.ensures merged.past merged.notes next).0 c.if-not-admits.false in
-    merged_more form laws g.L.Ledger.notes c.loop-k.ledger noted records k merged c.tested_record-record.result within record_is.value record_is.valid
+    merged_more form laws g.L.Ledger.notes c.loop-k.ledger noted records k merged c.checked_record-record.result within record_is.value record_is.valid
     c.note.new.self agrees (c.note.ensures merged.past merged.notes next agrees)
 
 pub returns-clause-agree : goal.returns-clause-agree

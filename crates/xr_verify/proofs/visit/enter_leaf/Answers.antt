@@ -10,7 +10,7 @@ returns-clause-rules g c = λ noted past.
     let form = g.R.Record.form in
     rules_of_leaf form c.args.over.now c.args.spot.least c.args.spot.left c.args.spot.last c.args.spot.number c.args.seen.now c.block-block.result.now noted
     c.pass.new.self.room c.record_count.result _ _ c.requires.from c.requires.within (c.in_ok-open.ensures.tests.0 (refl {a = true}))
-    (c.in_ok-test_place.ensures.0 (refl {a = true})) c.block-block.ensures ((c.in_ok-pass.ensures.rules noted past.are_noted).0 (refl {a = true}))
+    (c.in_ok-check_place.ensures.0 (refl {a = true})) c.block-block.ensures ((c.in_ok-pass.ensures.rules noted past.are_noted).0 (refl {a = true}))
     (ap (λ (room : ℕ). room + length noted) c.pass.ensures.room ∙ past.room_is) c.record_count.ensures c.take_room.ensures.enough
 
 pub returns-clause-past : goal.returns-clause-past

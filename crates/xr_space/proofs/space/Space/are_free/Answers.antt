@@ -10,7 +10,7 @@ use Rattle.xr_space.specs.Space.{IsFreeRun}
 use Rattle.xr_space.proofs.FreeSetLemmas.{same_span}
 use Rattle.xr_space.proofs.space.Space.are_free.Goals as goal
 
--- what is below the place behind a run, and not below the run, is the run
+-- what is below the place after a run, and not below the run, is the run
 last : (x run : Span) → is_lt (size_order x (span (run.start + 1) run.len)) ≡ true → is_lt (size_order x run) ≡ false → x ≡ run
 last x run below from = same_span x run (grind (arith, nat_tests)) (grind (arith, nat_tests))
 

@@ -1,7 +1,7 @@
 -- No run begins between the place and the next one.
 use Rattle.std.proofs.Common.{◌≡◌, ◌<◌, ◌≤◌, refl, sym, subst, ⊎_elim, arith}
 use Rattle.std.proofs.lemmas.Bool.{cases_lt}
-use Rattle.xr_space.specs.Space.{IsFreeRun, IsSized}
+use Rattle.xr_space.specs.Space.{IsFreeRun, IsRunBySize}
 use Rattle.xr_space.proofs.FreeSetLemmas.{are_runs}
 use Rattle.xr_space.proofs.JoinLemmas.{same_start}
 use Rattle.xr_space.proofs.space.Space.are_sized.Goals as goal
@@ -18,7 +18,7 @@ loop-run-preserved c x held below =
     let start : x.start ≡ run.start = omega (arith, first, below) in
     let same : x ≡ run =
     same_start (IsFreeRun c.args.over.now c.args.self.now) x run (are_runs _ _ c.requires) held found.next.held start in
-    subst (IsSized c.args.over.now c.args.self.now) (sym same) sized)
+    subst (IsRunBySize c.args.over.now c.args.self.now) (sym same) sized)
     (cases_lt x.start c.loop-run.place)
 
 pub returns : goal.returns

@@ -1,4 +1,4 @@
--- A run that is given back becomes one with the free runs beside it: the one behind it is taken out first, where there are two.
+-- A run that is given back becomes one with the free runs beside it: the one after it is taken out first, where there are two.
 use Rattle.std.proofs.Common.{ap}
 use Rattle.std.specs.Option.{is_some}
 use Rattle.xr_space.specs.Space.{IsFreeRun}

@@ -16,19 +16,19 @@ insert-requires-clause-rules c =
 pub insert-requires-clause-room : goal.insert-requires-clause-room
 insert-requires-clause-room c =
     let tree = c.args.self.now.by_block in
-    let few = few_wanted block_form block_span by_block_runs c.args.over.now tree.root tree.level (by_block c.args.run) c.requires.space.blocks in
+    let few = few_wanted block_form block_span by_block_runs c.args.over.now tree.block tree.level (by_block c.args.run) c.requires.space.blocks in
     omega (arith, few, c.requires.room)
 
 pub returns-clause-step : goal.returns-clause-step
 returns-clause-step c =
     let tree = c.args.self.now.by_block in
-    let few = few_wanted block_form block_span by_block_runs c.args.over.now tree.root tree.level (by_block c.args.run) c.requires.space.blocks in
-    block_step _ _ _ c.insert.new.self c.requires.space c.insert.ensures.tree c.insert.ensures.frame 2
-    (omega (arith, few, c.insert.ensures.room)) c.insert.ensures.changed
+    let few = few_wanted block_form block_span by_block_runs c.args.over.now tree.block tree.level (by_block c.args.run) c.requires.space.blocks in
+    block_step _ _ _ c.insert.new.self c.requires.space c.insert.ensures.step.tree c.insert.ensures.step.frame 2
+    (omega (arith, few, c.insert.ensures.room)) c.insert.ensures.step.changed
 
 pub returns-clause-set : goal.returns-clause-set
-returns-clause-set c = gains block_form block_span by_block_runs by_block (λ s. refl) _ _ c.args.run c.insert.ensures.set
+returns-clause-set c = gains block_form block_span by_block_runs by_block (λ s. refl) _ _ c.args.run c.insert.ensures.step.set
 
 pub returns-clause-sizes : goal.returns-clause-sizes
 returns-clause-sizes c =
-    sizes_stay _ _ _ c.insert.new.self c.requires.space c.insert.ensures.tree c.insert.ensures.frame
+    sizes_stay _ _ _ c.insert.new.self c.requires.space c.insert.ensures.step.tree c.insert.ensures.step.frame

@@ -16,19 +16,19 @@ insert-requires-clause-rules c =
 pub insert-requires-clause-room : goal.insert-requires-clause-room
 insert-requires-clause-room c =
     let tree = c.args.self.now.by_size in
-    let few = few_wanted size_form size_span by_size_runs c.args.over.now tree.root tree.level (by_size c.args.run) c.requires.space.sizes in
+    let few = few_wanted size_form size_span by_size_runs c.args.over.now tree.block tree.level (by_size c.args.run) c.requires.space.sizes in
     omega (arith, few, c.requires.room)
 
 pub returns-clause-step : goal.returns-clause-step
 returns-clause-step c =
     let tree = c.args.self.now.by_size in
-    let few = few_wanted size_form size_span by_size_runs c.args.over.now tree.root tree.level (by_size c.args.run) c.requires.space.sizes in
-    size_step _ _ _ c.insert.new.self c.requires.space c.insert.ensures.tree c.insert.ensures.frame 2
-    (omega (arith, few, c.insert.ensures.room)) c.insert.ensures.changed
+    let few = few_wanted size_form size_span by_size_runs c.args.over.now tree.block tree.level (by_size c.args.run) c.requires.space.sizes in
+    size_step _ _ _ c.insert.new.self c.requires.space c.insert.ensures.step.tree c.insert.ensures.step.frame 2
+    (omega (arith, few, c.insert.ensures.room)) c.insert.ensures.step.changed
 
 pub returns-clause-set : goal.returns-clause-set
-returns-clause-set c = gains size_form size_span by_size_runs by_size (λ s. refl) _ _ c.args.run c.insert.ensures.set
+returns-clause-set c = gains size_form size_span by_size_runs by_size (λ s. refl) _ _ c.args.run c.insert.ensures.step.set
 
 pub returns-clause-blocks : goal.returns-clause-blocks
 returns-clause-blocks c =
-    blocks_stay _ _ _ c.insert.new.self c.requires.space c.insert.ensures.tree c.insert.ensures.frame
+    blocks_stay _ _ _ c.insert.new.self c.requires.space c.insert.ensures.step.tree c.insert.ensures.step.frame

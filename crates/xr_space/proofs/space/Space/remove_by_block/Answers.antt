@@ -8,13 +8,13 @@ use Rattle.xr_space.proofs.space.Space.remove_by_block.Goals as goal
 
 pub returns-clause-step : goal.returns-clause-step
 returns-clause-step c =
-    block_step _ _ _ c.remove.new.self c.requires.space c.remove.ensures.tree c.remove.ensures.frame 0
-    (omega (arith, c.remove.ensures.room)) c.remove.ensures.changed
+    block_step _ _ _ c.remove.new.self c.requires.space c.remove.ensures.step.tree c.remove.ensures.step.frame 0
+    (omega (arith, c.remove.ensures.room)) c.remove.ensures.step.changed
 
 pub returns-clause-set : goal.returns-clause-set
 returns-clause-set c =
-    loses block_form block_span by_block_runs by_block (λ s. refl) _ _ c.args.run c.requires.space.blocks.records c.requires.held c.remove.ensures.set
+    loses block_form block_span by_block_runs by_block (λ s. refl) _ _ c.args.run c.requires.space.blocks.records c.requires.held c.remove.ensures.step.set
 
 pub returns-clause-sizes : goal.returns-clause-sizes
 returns-clause-sizes c =
-    sizes_stay _ _ _ c.remove.new.self c.requires.space c.remove.ensures.tree c.remove.ensures.frame
+    sizes_stay _ _ _ c.remove.new.self c.requires.space c.remove.ensures.step.tree c.remove.ensures.step.frame

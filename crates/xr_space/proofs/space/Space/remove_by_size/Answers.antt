@@ -8,13 +8,13 @@ use Rattle.xr_space.proofs.space.Space.remove_by_size.Goals as goal
 
 pub returns-clause-step : goal.returns-clause-step
 returns-clause-step c =
-    size_step _ _ _ c.remove.new.self c.requires.space c.remove.ensures.tree c.remove.ensures.frame 0
-    (omega (arith, c.remove.ensures.room)) c.remove.ensures.changed
+    size_step _ _ _ c.remove.new.self c.requires.space c.remove.ensures.step.tree c.remove.ensures.step.frame 0
+    (omega (arith, c.remove.ensures.room)) c.remove.ensures.step.changed
 
 pub returns-clause-set : goal.returns-clause-set
 returns-clause-set c =
-    loses size_form size_span by_size_runs by_size (λ s. refl) _ _ c.args.run c.requires.space.sizes.records c.requires.held c.remove.ensures.set
+    loses size_form size_span by_size_runs by_size (λ s. refl) _ _ c.args.run c.requires.space.sizes.records c.requires.held c.remove.ensures.step.set
 
 pub returns-clause-blocks : goal.returns-clause-blocks
 returns-clause-blocks c =
-    blocks_stay _ _ _ c.remove.new.self c.requires.space c.remove.ensures.tree c.remove.ensures.frame
+    blocks_stay _ _ _ c.remove.new.self c.requires.space c.remove.ensures.step.tree c.remove.ensures.step.frame

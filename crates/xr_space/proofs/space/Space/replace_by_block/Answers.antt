@@ -16,14 +16,14 @@ replace-requires-clause-rules c =
 
 pub returns-clause-step : goal.returns-clause-step
 returns-clause-step c =
-    block_step _ _ _ c.replace.new.self c.requires.space c.replace.ensures.tree c.replace.ensures.frame 0
-    (omega (arith, c.replace.ensures.room)) c.replace.ensures.changed
+    block_step _ _ _ c.replace.new.self c.requires.space c.replace.ensures.step.tree c.replace.ensures.step.frame 0
+    (omega (arith, c.replace.ensures.room)) c.replace.ensures.step.changed
 
 pub returns-clause-set : goal.returns-clause-set
 returns-clause-set c =
     swaps block_form block_span by_block_runs by_block (λ s. refl) _ _ c.args.old c.args.new c.requires.space.blocks.records c.requires.held
-    c.replace.ensures.set
+    c.replace.ensures.step.set
 
 pub returns-clause-sizes : goal.returns-clause-sizes
 returns-clause-sizes c =
-    sizes_stay _ _ _ c.replace.new.self c.requires.space c.replace.ensures.tree c.replace.ensures.frame
+    sizes_stay _ _ _ c.replace.new.self c.requires.space c.replace.ensures.step.tree c.replace.ensures.step.frame

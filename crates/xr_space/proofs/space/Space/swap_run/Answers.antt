@@ -1,5 +1,5 @@
 -- A run in the place of another in both trees.
-use Rattle.xr_space.specs.Space.{IsSized}
+use Rattle.xr_space.specs.Space.{IsRunBySize}
 use Rattle.xr_space.proofs.FrameLemmas.{then_step}
 use Rattle.xr_space.proofs.PairLemmas.{lose_gain, swap_pairs}
 use Rattle.xr_space.proofs.space.Space.swap_run.Goals as goal
@@ -23,5 +23,5 @@ pub returns-clause-paired : goal.returns-clause-paired
 returns-clause-paired c =
     swap_pairs _ _ _ _ c.requires.paired c.args.old c.args.new
     (rw (c.insert_by_size.ensures.blocks, c.remove_by_size.ensures.blocks) c.replace_by_block.ensures.set)
-    (lose_gain (IsSized c.args.over.now c.args.self.now) _ (IsSized c.insert_by_size.new.over c.insert_by_size.new.self) c.args.old c.args.new
+    (lose_gain (IsRunBySize c.args.over.now c.args.self.now) _ (IsRunBySize c.insert_by_size.new.over c.insert_by_size.new.self) c.args.old c.args.new
     (rw c.replace_by_block.ensures.sizes at c.remove_by_size.ensures.set) c.insert_by_size.ensures.set)

@@ -1,6 +1,0 @@
-use Rattle.std.proofs.Common.{◌≡◌}
-use Rattle.xr_pool.specs.Overlay.{blocks_in}
-use Rattle.xr_pool.proofs.overlay.cut_blocks.Given as goal
-
-abbrev pub invariant-loop-n : goal.invariant-loop-n
-invariant-loop-n l = l.blocks.items ≡ blocks_in l.n l.bytes
