@@ -11,7 +11,7 @@ use Rattle.xr_base.specs.Image.{part, overlaid, block_of, blocks_below}
 pub length-overlaid : (at : ℕ) (bytes image : List ℕ) → at + length bytes ≤ length image → length (overlaid at bytes image) ≡ length image
 length-overlaid at bytes image fits = grind (arith, common_steps)
 
--- what was laid there, and what stands before and behind it
+-- what was laid there, and what stands before and after it
 pub part-overlaid : (at n : ℕ) (bytes image : List ℕ) → length bytes ≡ n → at + n ≤ length image → part at n (overlaid at bytes image) ≡ bytes
 part-overlaid at n bytes image long fits = grind (arith, common_steps)
 

@@ -3,5 +3,7 @@ pub mod Cause
 pub mod Checksum
 pub mod ChecksumLaws
 pub mod Fields
+pub mod Geometry
 pub mod Image
 pub mod ImageLaws
+pub mod Layout

@@ -1,4 +1,5 @@
 //! The layout of an image, each number named once for code and specs.
+ghost use Rattle.xr_base.specs.Geometry.{HasGeometry};
 
 /// Bytes of a block.
 pub const BLOCK_BYTES: usize = 4096;
@@ -59,3 +60,8 @@ pub const FIRST_DATA_BLOCK: u32 = 512;
 
 /// Data blocks of a group.
 pub const DATA_BLOCKS: u32 = GROUP_BLOCKS - FIRST_DATA_BLOCK;
+
+/// Each number above is that of the format. So whatever is defined by a constant is defined by that number.
+pub fn geometry_is_fixed()
+    ensures { HasGeometry }
+{}

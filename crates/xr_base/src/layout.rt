@@ -1,5 +1,6 @@
 //! The numbers of formats that more than one crate reads or writes, each named once for code and specs: records of the log,
 //! and blocks of trees ("XFS Algorithms and Data Structures", 3rd edition, Log Record and Variable Length Record B+trees).
+ghost use Rattle.xr_base.specs.Layout.{HasRecordLayout, HasTreeLayout};
 
 /// `h_magicno`: how a record of the log begins (`XLOG_HEADER_MAGIC_NUM`).
 pub const RECORD_MAGIC: u32 = 0xFEED_BABE;
@@ -60,3 +61,9 @@ pub const LONG_BB_CRC: usize = 64;
 pub const SHORT_HEADER_BYTES: usize = 56;
 
 pub const LONG_HEADER_BYTES: usize = 72;
+
+/// Each number above is that of the format.
+pub fn layout_is_fixed()
+    ensures records { HasRecordLayout }
+    ensures trees { HasTreeLayout }
+{}

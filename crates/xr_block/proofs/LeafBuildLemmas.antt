@@ -67,7 +67,7 @@ module _ {X : Type 0} (form : Form X) (laws : IsForm form) (site : Site) (place 
       → from ≤ to → to ≤ count_in first + count_in second → to - from ≤ form.leaf_max → count ≡ to - from
       → area ≡ zero_padded room (part (form.size * from) (form.size * to - form.size * from) (front ++ after))
       → IsLeafOf form site place (take (to - from) (drop from (xs ++ ys))) (sealed form (head ++ area))
-  leaf_gathered one other xs ys from to first second front after full_first full_second is_first is_second fronts behinds order within few counted areas =
+  leaf_gathered one other xs ys from to first second front after full_first full_second is_first is_second fronts rests order within few counted areas =
       let IsValid = λ (r : X). form.is_valid r ≡ true in
       let items : List X = xs ++ ys in
       let all : length items ≡ count_in first + count_in second =
@@ -82,7 +82,7 @@ module _ {X : Type 0} (form : Form X) (laws : IsForm form) (site : Site) (place 
       let size : length next ≡ to - from = length-take-le (to - from) (drop from items) (omega (arith, length-drop from items, all)) in
       let bytes : front ++ after ≡ flat_map form.bytes_of items =
       ap (λ (zs : List ℕ). zs ++ after) (fronts ∙ records_part one xs first full_first is_first)
-      ∙ ap (λ (zs : List ℕ). flat_map form.bytes_of xs ++ zs) (behinds ∙ records_part other ys second full_second is_second) ∙ sym (flat_map-append form.bytes_of xs ys) in
+      ∙ ap (λ (zs : List ℕ). flat_map form.bytes_of xs ++ zs) (rests ∙ records_part other ys second full_second is_second) ∙ sym (flat_map-append form.bytes_of xs ys) in
       let part_is : part (form.size * from) (form.size * to - form.size * from) (front ++ after) ≡ flat_map form.bytes_of next =
       ap (λ (n : ℕ). part (form.size * from) n (front ++ after)) (stretch_size form.size from to order)
       ∙ ap (part (form.size * from) (form.size * (to - from))) bytes

@@ -144,24 +144,24 @@ abbrev pub AreEntries : {X : Type 0} → Form X → List Entry → Type 0
 AreEntries form entries = All (λ (e : Entry). (length e.key ≡ key_size form) × (e.child < 256 ^ pointer_size form)) entries
 
 -- keys and pointers are read back one after the other
-pub entries_back : {X : Type 0} (form : Form X) (entries : List Entry) (behind_keys behind_pointers : List ℕ) → AreEntries form entries
-    → entries_from (key_size form) (pointer_size form) (length entries) (flat_map (λ (e : Entry). e.key) entries ++ behind_keys)
-    (flat_map (λ (e : Entry). big_bytes (pointer_size form) e.child) entries ++ behind_pointers) ≡ entries
+pub entries_back : {X : Type 0} (form : Form X) (entries : List Entry) (after_keys after_pointers : List ℕ) → AreEntries form entries
+    → entries_from (key_size form) (pointer_size form) (length entries) (flat_map (λ (e : Entry). e.key) entries ++ after_keys)
+    (flat_map (λ (e : Entry). big_bytes (pointer_size form) e.child) entries ++ after_pointers) ≡ entries
 unfolding entries_from
-entries_back form [] behind_keys behind_pointers all = refl
-entries_back form (e ∷ es) behind_keys behind_pointers all =
+entries_back form [] after_keys after_pointers all = refl
+entries_back form (e ∷ es) after_keys after_pointers all =
     let good = all 0 e (omega arith) in
     let pointer : List ℕ = big_bytes (pointer_size form) e.child in
-    let keys : List ℕ = flat_map (λ (entry : Entry). entry.key) es ++ behind_keys in
-    let pointers : List ℕ = flat_map (λ (entry : Entry). big_bytes (pointer_size form) entry.child) es ++ behind_pointers in
-    let split_keys : flat_map (λ (entry : Entry). entry.key) (e ∷ es) ++ behind_keys ≡ e.key ++ keys = append_assoc e.key _ behind_keys in
-    let split_pointers : flat_map (λ (entry : Entry). big_bytes (pointer_size form) entry.child) (e ∷ es) ++ behind_pointers ≡ pointer ++ pointers =
-    append_assoc pointer _ behind_pointers in
+    let keys : List ℕ = flat_map (λ (entry : Entry). entry.key) es ++ after_keys in
+    let pointers : List ℕ = flat_map (λ (entry : Entry). big_bytes (pointer_size form) entry.child) es ++ after_pointers in
+    let split_keys : flat_map (λ (entry : Entry). entry.key) (e ∷ es) ++ after_keys ≡ e.key ++ keys = append_assoc e.key _ after_keys in
+    let split_pointers : flat_map (λ (entry : Entry). big_bytes (pointer_size form) entry.child) (e ∷ es) ++ after_pointers ≡ pointer ++ pointers =
+    append_assoc pointer _ after_pointers in
     let key : take (key_size form) (e.key ++ keys) ≡ e.key = take_at e.key keys (key_size form) good.0 in
     let next_keys : drop (key_size form) (e.key ++ keys) ≡ keys = drop_at e.key keys (key_size form) good.0 in
     let child : big_number (pointer_size form) (pointer ++ pointers) ≡ e.child = big_number-reads_back (pointer_size form) e.child pointers good.1 in
     let next_pointers : drop (pointer_size form) (pointer ++ pointers) ≡ pointers = drop-bytes (pointer_size form) e.child pointers in
-    let others = entries_back form es behind_keys behind_pointers (λ k d within. all (suc k) d (omega arith)) in
+    let others = entries_back form es after_keys after_pointers (λ k d within. all (suc k) d (omega arith)) in
     rw (split_keys, split_pointers, key, child, next_keys, next_pointers, others) refl
 
 length-keys : {X : Type 0} (form : Form X) (entries : List Entry) → AreEntries form entries

@@ -50,7 +50,7 @@ parted n k m xs ys field sum long is = (
   sym (drop-take n k xs) ∙ ap (λ (j : ℕ). drop n (take j xs)) sum ∙ ap (drop n) is ∙ drop_at ys field n long,
 )
 
--- a neighbour's bytes are those that it is read from, and it is read back
+-- a sibling's bytes are those that it is read from, and it is read back
 no_sibling : (long : Bool) → (let width : ℕ = if long then 8 else 4 in big_bytes width (256 ^ width - 1) ≡ replicate width 255)
 no_sibling true = refl
 no_sibling false = refl
@@ -81,15 +81,15 @@ chosen_back : (test : Bool) (n m : ℕ) → n == m ≡ test → (n ≡ m → ⊥
 chosen_back true n m is other = absurd (other (eqb-true n m is))
 chosen_back false n m is other = refl
 
-neighbour_read : (long : Bool) (o : Option ℕ) (bytes : List ℕ) → (let width : ℕ = if long then 8 else 4 in
+sibling_read : (long : Bool) (o : Option ℕ) (bytes : List ℕ) → (let width : ℕ = if long then 8 else 4 in
     Names width o → take width bytes ≡ sibling width o → sibling_in width bytes ≡ o)
-neighbour_read long None bytes small is =
+sibling_read long None bytes small is =
     let width : ℕ = if long then 8 else 4 in
     let number : big_number width bytes ≡ 256 ^ width - 1 =
     sym (big_from-take 0 width width bytes (omega arith)) ∙ ap (big_number width) (is ∙ sym (no_sibling long))
     ∙ reads_alone width (256 ^ width - 1) (none_fits long) in
     ap (λ (test : Bool). if test then None else Some (big_number width bytes)) (eq-eqb (big_number width bytes) (256 ^ width - 1) number)
-neighbour_read long (Some n) bytes small is =
+sibling_read long (Some n) bytes small is =
     let width : ℕ = if long then 8 else 4 in
     let number : big_number width bytes ≡ n =
     sym (big_from-take 0 width width bytes (omega arith)) ∙ ap (big_number width) is
@@ -98,10 +98,10 @@ neighbour_read long (Some n) bytes small is =
     ∙ chosen_back (n == 256 ^ width - 1) n (256 ^ width - 1) refl (λ same. absurd (omega (arith, small, same)))
 
 -- after the checksum's room there may be zeros, and then the items
-behind_sum : (long : Bool) (rest : List ℕ) → (let size : ℕ = if long then 72 else 56 in let sum : ℕ = if long then 64 else 52 in
+after_sum : (long : Bool) (rest : List ℕ) → (let size : ℕ = if long then 72 else 56 in let sum : ℕ = if long then 64 else 52 in
     drop 4 (replicate (size - sum) 0 ++ rest) ≡ replicate (size - (sum + 4)) 0 ++ rest)
-behind_sum true rest = refl
-behind_sum false rest = refl
+after_sum true rest = refl
+after_sum false rest = refl
 
 -- the fields of a header before the checksum
 abbrev pub front : {X : Type 0} → Form X → Site → Place → ℕ → List ℕ
@@ -154,7 +154,7 @@ module _ {X : Type 0} (form : Form X) (site : Site) (place : Place) (count : ℕ
   laid_after =
       sym (drop-drop 4 (crc_place form) (laid form site place count items))
       ∙ ap (λ (xs : List ℕ). drop 4 (drop (crc_place form) xs)) laid_is
-      ∙ ap (drop 4) (drop_at (front form site place count) _ (crc_place form) length-front) ∙ behind_sum form.long (rest_of form items)
+      ∙ ap (drop 4) (drop_at (front form site place count) _ (crc_place form) length-front) ∙ after_sum form.long (rest_of form items)
 
 -- a header's fields that are as they have to be, with the count and the siblings that are there, are those of a block
 framed_front : {X : Type 0} (form : Form X) (site : Site) (n level : ℕ) (bytes : List ℕ) → length bytes ≡ BLOCK_BYTES → AreBytes bytes
@@ -285,8 +285,8 @@ block_read form site place count items bytes identified room is =
       rest = ap (λ (k : ℕ). drop k bytes) (sym size) ∙ sym (drop-drop zeros (sp + 4) bytes) ∙ ap (drop zeros) zeros_after
           ∙ drop_at (replicate zeros 0) _ zeros (length-replicate zeros 0);
       same_count = λ small. sym (big_from-take 0 2 2 (drop 6 bytes) (omega arith)) ∙ ap (big_number 2) two.1 ∙ reads_alone 2 count small;
-      same_left = λ names. neighbour_read form.long place.left (drop 8 bytes) names three.1;
-      same_right = λ names. neighbour_read form.long place.right (drop (8 + p) bytes) names four.1;
+      same_left = λ names. sibling_read form.long place.left (drop 8 bytes) names three.1;
+      same_right = λ names. sibling_read form.long place.right (drop (8 + p) bytes) names four.1;
       left_part = three.1;
       right_part = four.1;
     }

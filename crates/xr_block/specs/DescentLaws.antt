@@ -1,23 +1,18 @@
 -- What is known of a block of a tree that a search comes to: a leaf or a node whose items a bound parts, and children to
 -- which the same applies.
-use Rattle.std.proofs.Common.{◌≡◌, ℕ, zero, suc, ◌+◌, ◌-◌, ◌<◌, ◌≤◌, ◌&&◌, Bool, true, false, nat_lt, if◌then◌else◌, Option, Some, None, IfSome, List, [], reverse, length, take, drop, get_or, refl, sym, ap, ◌∙◌, subst, arith}
-use Rattle.std.proofs.lemmas.Bool.Decides.{nat_tests}
-use Rattle.std.proofs.lemmas.List.{drop_more, get_or_default, take-append-drop}
-use Rattle.std.proofs.lemmas.List.Concat.{flat_map-append}
+use Rattle.std.proofs.Common.{◌≡◌, ℕ, zero, suc, ◌+◌, ◌<◌, ◌≤◌, true, None, List, [], length, take, get_or, refl, sym, ap, ◌∙◌, subst, arith}
 use Rattle.std.proofs.lemmas.List.Elements.{All-contains}
-use Rattle.std.proofs.lemmas.List.Folds.{find-append}
-use Rattle.std.specs.Option.{is_some, option_or}
 use Rattle.std.specs.Cmp.{IsTotalOrder, alike_right}
-use Rattle.std.specs.List.{All, AllPairs, concat, find, flat_map, slice_get}
+use Rattle.std.specs.List.{All, AllPairs, concat, flat_map}
 use Rattle.std.specs.Ordering.{is_ge, is_gt, is_le, is_lt, ordering_reverse}
 use Rattle.std.specs.declared.cmp.Ordering.{Ordering}
 use Rattle.std.specs.declared.cmp.Ordering.TheVariants.{Less, Equal, Greater}
 use Rattle.xr_block.specs.declared.bound.Bound.{Bound}
 use Rattle.xr_block.specs.declared.bound.Bound.TheVariants.{Start, Before, After}
-use Rattle.xr_block.specs.Bounds.{IsParted, IsPlaceOf, entry_is_before, is_before, key_is_before}
+use Rattle.xr_block.specs.Bounds.{IsParted, entry_is_before, is_before, key_is_before}
 use Rattle.xr_kinds.specs.Form.{Form, IsForm}
 use Rattle.xr_block.specs.Leaf.{IsLeaf}
-use Rattle.xr_block.specs.NodeEntries.{child_in, high_key_in, key_in, low_key_from, low_key_in}
+use Rattle.xr_block.specs.NodeEntries.{child_in}
 use Rattle.xr_block.specs.NodeEntryLaws.{count_of_block, entry_read, length-entries}
 use Rattle.xr_pool.specs.Overlay.{Blocks, block_at, pool_size}
 use Rattle.xr_block.specs.Rows.{key_held, AreRowsOf, IsWholeLeaf, IsWholeNode, min_records, named_below, rows_from}
@@ -25,7 +20,7 @@ use Rattle.xr_block.specs.Tree.{site_of, tree_held, tree_records}
 use Rattle.xr_block.specs.TreeBlock.{Entry, count_in, entries_in, records_in}
 use Rattle.xr_block.specs.Under.{IsUnder}
 use Rattle.xr_block.specs.UnderLaws.{HasFirst, child_in_row, min_records_some, has_first, leaf_records, linked_at, named_at, node_records}
-use Rattle.xr_block.specs.PartLaws.{Begins, all_of_part, all_left, all_right, find_after, front_of_place, front_passes, last_at, last_of_none, last_of_part, last_of_parted, none_found, pairs_next, pairs_of_part, parted, some_found}
+use Rattle.xr_block.specs.PartLaws.{Begins, all_of_part, all_left, all_right, pairs_of_part, parted}
 
 pub less_if : (o : Ordering) → is_lt o ≡ true → o ≡ Less
 less_if Less is = refl

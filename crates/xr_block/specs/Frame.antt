@@ -1,7 +1,7 @@
 -- What a change of one tree leaves of an overlay: which blocks it may write, take and give back.
-use Rattle.std.specs.Prelude.{◌≡◌, ℕ, true, false, List}
+use Rattle.std.specs.Prelude.{◌≡◌, ◌⊎◌, ℕ, true, false, List}
 use Rattle.std.specs.List.{Contains}
-use Rattle.xr_pool.specs.Overlay.{Blocks, block_at, is_free, pool_size}
+use Rattle.xr_pool.specs.Overlay.{Blocks, block_at, is_changed, is_free, pool_size}
 use Rattle.xr_kinds.specs.Form.{Form}
 use Rattle.xr_block.specs.Tree.{IsTreeIn, site_of, tree_blocks, tree_records}
 
@@ -18,6 +18,8 @@ pub record ChangesOnly (before : Blocks) (old : List ℕ) (after : Blocks) (new 
   pub taken : (n : ℕ) → Contains new n → is_free after n ≡ false
   pub freed : (n : ℕ) → Contains old n → ¬ (Contains new n) → is_free after n ≡ true
   pub spare : (n : ℕ) → is_free before n ≡ true → ¬ (Contains new n) → is_free after n ≡ true
+  -- what is marked as changed now was marked already, or it was the tree's own, or free
+  pub marked : (n : ℕ) → is_changed after n ≡ true → (is_changed before n ≡ true) ⊎ Contains old n ⊎ (is_free before n ≡ true)
 
 -- what stays of a tree
 pub record Stays {X : Type 0} (form : Form X) (before after : Blocks) (root level : ℕ) (new : List ℕ) : Type 0 where

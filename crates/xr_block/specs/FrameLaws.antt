@@ -1,22 +1,22 @@
 -- A tree is what its own blocks say. So another tree stays as it is, with all its records, where a change leaves its blocks
 -- alone, and changes one after the other are one change.
 use Rattle.std.proofs.Common.{◌≡◌, ◌≢◌, ◌⊎◌, ℕ, zero, suc, ◌<◌, true, false, List, [], ◌∷◌, ◌++◌, Option, Some, None, map, get_or, refl, sym, ap, ◌∙◌, subst, inl, inr, ⊎_elim, arith}
-use Rattle.std.proofs.lemmas.Bool.{cases_eq}
+use Rattle.std.proofs.lemmas.Bool.{cases_Bool, cases_eq}
 use Rattle.std.proofs.lemmas.List.{get_or_default}
 use Rattle.std.proofs.lemmas.List.Elements.{All-contains, Contains-append_cases, Contains-append_left, Contains-append_right}
 use Rattle.std.specs.List.{All, AllPairs, Contains, concat, flat_map}
 use Rattle.xr_kinds.specs.Form.{Form}
 use Rattle.xr_block.specs.Frame.{ChangesOnly, Stays}
-use Rattle.xr_pool.specs.Overlay.{Blocks, block_at, is_free, pool_size}
+use Rattle.xr_pool.specs.Overlay.{Blocks, block_at, is_changed, is_free, pool_size}
 use Rattle.xr_block.specs.Rows.{AreLinked, AreNamed, AreRowsOf, IsWhole, IsWholeLeaf, IsWholeNode, first_of, min_records, held_in, key_held, key_of_entries, key_of_records, leaves_from, named_below, rows_from}
 use Rattle.xr_block.specs.Tree.{AreRecords, IsTreeIn, IsUsed, least_of_root, site_of, tree_blocks, tree_held, tree_records}
 use Rattle.xr_block.specs.TreeBlock.{Entry, Place, Site, entries_in, leaf_bytes, node_bytes, records_in}
 
-only_member : (x n : ℕ) → Contains (x ∷ []) n → x ≡ n
+pub only_member : (x n : ℕ) → Contains (x ∷ []) n → x ≡ n
 only_member x n (zero, within, is) = is
 only_member x n (suc k, within, is) = absurd (omega (arith, within))
 
-member_cases : (xs : List ℕ) (n : ℕ) → Contains xs n ⊎ ¬ (Contains xs n)
+pub member_cases : (xs : List ℕ) (n : ℕ) → Contains xs n ⊎ ¬ (Contains xs n)
 member_cases [] n = inr (λ found. absurd (omega (arith, found.1)))
 member_cases (x ∷ xs) n = ⊎_elim
     (λ (same : x ≡ n). inl (0, omega arith, same))
@@ -221,6 +221,24 @@ module _ (a b c : Blocks) (u v w : List ℕ) (one : ChangesOnly a u b v) (two : 
       (λ (never : ¬ (Contains v n)). two.spare n (one.spare n free never) without)
       (member_cases v n)
 
+  -- what the second change had or found free, the first had or found free
+  own_before : (n : ℕ) → Contains v n ⊎ (is_free b n ≡ true) → Contains u n ⊎ (is_free a n ≡ true)
+  own_before n own = ⊎_elim
+      (λ (free : is_free a n ≡ true). inr free)
+      (λ (used : is_free a n ≡ false). ⊎_elim
+      (λ (within : Contains u n). inl within)
+      (λ (without : ¬ (Contains u n)).
+      let kept = one.others n used without in
+      ⊎_elim (λ (between : Contains v n). absurd (kept.2 between)) (λ (lie : is_free b n ≡ true). let used_still = kept.1 in absurd cc) own)
+      (member_cases u n))
+      (cases_Bool (is_free a n))
+
+  marked_stay : (n : ℕ) → is_changed c n ≡ true → (is_changed a n ≡ true) ⊎ Contains u n ⊎ (is_free a n ≡ true)
+  marked_stay n is = ⊎_elim
+      (λ (between : is_changed b n ≡ true). one.marked n between)
+      (λ (own : Contains v n ⊎ (is_free b n ≡ true)). inr (own_before n own))
+      (two.marked n is)
+
   pub then_changes : ChangesOnly a u c w
   then_changes = record {
     site = two.site ∙ one.site;
@@ -231,4 +249,5 @@ module _ (a b c : Blocks) (u v w : List ℕ) (one : ChangesOnly a u b v) (two : 
     taken = two.taken;
     freed = freed_stay;
     spare = spare_stay;
+    marked = marked_stay;
   }

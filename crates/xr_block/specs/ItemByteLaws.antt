@@ -9,7 +9,7 @@ use Rattle.xr_base.specs.Image.{overlaid, part}
 use Rattle.xr_block.specs.TreeBlock.{zero_padded}
 use Rattle.xr_block.specs.ItemBytes.{with_item, without_item}
 
--- bytes with zeros after them, bound in two
+-- bytes with zeros after them, split in two
 filled_is : (n : ℕ) (xs ys : List ℕ) → zero_padded n (xs ++ ys) ≡ xs ++ (ys ++ replicate (n - (length xs + length ys)) 0)
 filled_is n xs ys = ap (λ (m : ℕ). xs ++ ys ++ replicate (n - m) 0) (length-append xs ys) ∙ append_assoc xs ys _
 

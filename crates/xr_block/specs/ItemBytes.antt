@@ -1,3 +1,4 @@
+-- Of no public contract.
 -- Bytes in which items of one size stand one after the other, after one more or one less.
 use Rattle.std.specs.Prelude.{ℕ, ◌+◌, ◌-◌, List, ◌++◌, length, take, drop, replicate}
 use Rattle.xr_base.specs.Image.{overlaid, part}

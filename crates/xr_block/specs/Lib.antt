@@ -17,6 +17,8 @@ pub mod NodeEntryLaws
 pub mod PartLaws
 pub mod Rows
 pub mod SealLaws
+pub mod SharedPool
+pub mod SharedPoolLaws
 pub mod Times
 pub mod TimesLaws
 pub mod Tree

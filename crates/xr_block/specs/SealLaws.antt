@@ -89,17 +89,17 @@ module _ {X : Type 0} (form : Form X) (bytes : List ℕ) (long : length bytes �
   sealed_rest = let fill = fields_fill form.long in drop_summed (crc_place form) (header_size form) bytes (omega (arith, fill)) roomy
 
   -- the sibling at a place before the checksum
-  sealed_neighbour : (place : ℕ) → place + pointer_size form ≤ crc_place form
+  sealed_sibling : (place : ℕ) → place + pointer_size form ≤ crc_place form
       → sibling_in (pointer_size form) (drop place (sealed form bytes)) ≡ sibling_in (pointer_size form) (drop place bytes)
-  sealed_neighbour place before =
+  sealed_sibling place before =
       let none : ℕ = 256 ^ pointer_size form - 1 in
       ap (λ (n : ℕ). if n == none then None else Some n) (number_before (crc_place form) place (pointer_size form) bytes before (omega (arith, roomy)))
 
   pub sealed_left : left_in form (sealed form bytes) ≡ left_in form bytes
-  sealed_left = let fill = fields_fill form.long in sealed_neighbour 8 (omega (arith, fill))
+  sealed_left = let fill = fields_fill form.long in sealed_sibling 8 (omega (arith, fill))
 
   pub sealed_right : right_in form (sealed form bytes) ≡ right_in form bytes
-  sealed_right = let fill = fields_fill form.long in sealed_neighbour (8 + pointer_size form) (omega (arith, fill))
+  sealed_right = let fill = fields_fill form.long in sealed_sibling (8 + pointer_size form) (omega (arith, fill))
 
 -- a block of a tree has its checksum
 pub sealed_block : {X : Type 0} (form : Form X) (site : Site) (place : Place) (count : ℕ) (items : List ℕ) → length site.uuid ≡ 16

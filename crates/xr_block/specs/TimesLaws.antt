@@ -1,5 +1,5 @@
 -- How often a number stands in a list, and what a list without doubles is.
-use Rattle.std.proofs.Common.{◌≡◌, ◌≢◌, ℕ, zero, suc, ◌+◌, ◌<◌, ◌≤◌, ◌==◌, Bool, if◌then◌else◌, List, [], ◌∷◌, length, get_or, refl, sym, ap, ◌∙◌, subst, arith, ⊎_elim}
+use Rattle.std.proofs.Common.{◌≡◌, ◌≢◌, ℕ, zero, suc, ◌+◌, ◌<◌, ◌≤◌, ◌==◌, Bool, if◌then◌else◌, List, [], ◌∷◌, ◌++◌, length, get_or, refl, sym, ap, ◌∙◌, subst, arith, ⊎_elim}
 use Rattle.std.proofs.lemmas.Bool.{cases_eq, eq-eqb, eqb-true, ne_eqb}
 use Rattle.std.proofs.lemmas.Bool.Decides.{Decides-eqb}
 use Rattle.std.proofs.lemmas.List.Kept.{AllPairs-cons}
@@ -17,6 +17,10 @@ times_other n m xs other = ap (λ (test : Bool). (if test then 1 else 0) + times
 
 pub times_more : (n m : ℕ) (xs : List ℕ) → times n xs ≤ times n (m ∷ xs)
 times_more n m xs = omega arith
+
+pub times-append : (n : ℕ) (xs ys : List ℕ) → times n (xs ++ ys) ≡ times n xs + times n ys
+times-append n [] ys = omega arith
+times-append n (x ∷ xs) ys = omega (arith, times-append n xs ys)
 
 -- what stands there, and what stands nowhere
 pub times_at : (xs : List ℕ) (k d : ℕ) → k < length xs → 1 ≤ times (get_or xs k d) xs

@@ -43,7 +43,8 @@ fn insert_among<R: Record>(items: &mut [u8], k: usize, count: usize, key: &[u8],
     requires key { length key.now ≡ key_size R.form }
     requires long { header_size R.form + length items.old ≡ 4096 }
     ensures { items.new ≡ with_item (key_size R.form * k) (key_size R.form * count) key.now (take (R.form.node_max * key_size R.form) items.old)
-        ++ with_item (pointer_size R.form * k) (pointer_size R.form * count) (big_bytes (pointer_size R.form) child) (drop (R.form.node_max * key_size R.form) items.old) }
+        ++ with_item (pointer_size R.form * k) (pointer_size R.form * count) (big_bytes (pointer_size R.form) child)
+        (drop (R.form.node_max * key_size R.form) items.old) }
 {
     let size = key_bytes::<R>();
     let (keys, pointers) = items.split_at_mut(R::NODE_MAX as usize * size);
@@ -56,7 +57,8 @@ fn remove_among<R: Record>(items: &mut [u8], k: usize, count: usize)
     requires place { k < count }
     requires few { count ≤ R.form.node_max }
     requires long { header_size R.form + length items.old ≡ 4096 }
-    ensures { items.new ≡ without_item (key_size R.form * k) (key_size R.form * count) (key_size R.form) (take (R.form.node_max * key_size R.form) items.old)
+    ensures { items.new
+        ≡ without_item (key_size R.form * k) (key_size R.form * count) (key_size R.form) (take (R.form.node_max * key_size R.form) items.old)
         ++ without_item (pointer_size R.form * k) (pointer_size R.form * count) (pointer_size R.form) (drop (R.form.node_max * key_size R.form) items.old) }
 {
     let size = key_bytes::<R>();
@@ -142,7 +144,8 @@ pub fn build_node<R: Record>(out: &mut Block, fields: &Header, keys: &[u8], poin
     requires keys { length keys.now ≤ R.form.node_max * key_size R.form }
     requires pointers { length pointers.now ≤ R.form.node_max * pointer_size R.form }
     ensures { (site : Site) (place : Place) (entries : List Entry) → IsHeader fields.now site place → AreEntries R.form entries
-        → keys.now ≡ flat_map (λ (e : Entry). e.key) entries → pointers.now ≡ flat_map (λ (e : Entry). big_bytes (pointer_size R.form) e.child) entries
+        → keys.now ≡ flat_map (λ (e : Entry). e.key) entries → pointers.now
+        ≡ flat_map (λ (e : Entry). big_bytes (pointer_size R.form) e.child) entries
         → IsNodeOf R.form site place entries (sealed R.form out.new) }
 {
     let (head, items) = out.split_at_mut(header_size::<R>());
@@ -159,7 +162,8 @@ fn gather_keys<R: Record>(keys: &mut [u8], first: &Block, second: &Block, from: 
     requires few { (count_in first.now ≤ R.form.node_max) × (count_in second.now ≤ R.form.node_max) }
     requires room { key_size R.form * (to - from) ≤ length keys.old }
     ensures { keys.new ≡ zero_padded (length keys.old) (part (key_size R.form * from) (key_size R.form * to - key_size R.form * from)
-        (part (header_size R.form) (key_size R.form * count_in first.now) first.now ++ part (header_size R.form) (key_size R.form * count_in second.now) second.now)) }
+        (part (header_size R.form) (key_size R.form * count_in first.now) first.now
+        ++ part (header_size R.form) (key_size R.form * count_in second.now) second.now)) }
 {
     let size = key_bytes::<R>();
     gather_items(
@@ -183,7 +187,8 @@ fn gather_pointers<R: Record>(
     requires within { to ≤ count_in first.now + count_in second.now }
     requires few { (count_in first.now ≤ R.form.node_max) × (count_in second.now ≤ R.form.node_max) }
     requires room { pointer_size R.form * (to - from) ≤ length pointers.old }
-    ensures { pointers.new ≡ zero_padded (length pointers.old) (part (pointer_size R.form * from) (pointer_size R.form * to - pointer_size R.form * from)
+    ensures { pointers.new
+        ≡ zero_padded (length pointers.old) (part (pointer_size R.form * from) (pointer_size R.form * to - pointer_size R.form * from)
         (part (header_size R.form + R.form.node_max * key_size R.form) (pointer_size R.form * count_in first.now) first.now
         ++ part (header_size R.form + R.form.node_max * key_size R.form) (pointer_size R.form * count_in second.now) second.now)) }
 {

@@ -158,7 +158,8 @@ fn link<R: Record>(block: &mut Block, at: usize, other: Option<u32>)
 /// Gives a block another left sibling.
 pub fn set_left<R: Record>(block: &mut Block, left: Option<u32>)
     ensures { (site : Site) (place : Place) (count : ℕ) (items : List ℕ) → length site.uuid ≡ 16
-        → sealed R.form block.old ≡ tree_block R.form site place count items → sealed R.form block.new ≡ tree_block R.form site (with_left left place) count items }
+        → sealed R.form block.old ≡ tree_block R.form site place count items
+        → sealed R.form block.new ≡ tree_block R.form site (with_left left place) count items }
 {
     link::<R>(block, BB_LEFTSIB, left);
 }

@@ -23,6 +23,8 @@ mod tests;
 pub use edit_leaf::{build_leaf, gather_leaf, insert_record, remove_record, replace_record};
 pub use edit_node::{build_node, gather_node, insert_entry, remove_entry, set_key};
 pub use header::{Header, put_number, seal, set_left};
-pub use laws::{changes_follow, other_trees_stay};
+pub use laws::{
+    block_zero_is_of_no_tree, changes_follow, changes_widen, other_trees_stay, pool_stays_parted,
+};
 pub use put_key::{put_key_of_leaf, put_key_of_node};
 pub use root::Root;

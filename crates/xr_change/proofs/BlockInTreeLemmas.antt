@@ -1,9 +1,9 @@
 -- A block of a tree in its row: what a lookup may do there, and what a leaf is after its records were changed.
 use Rattle.std.proofs.Common.{◌≡◌, ℕ, zero, suc, ◌≤◌, None, List, [], ◌∷◌, ◌++◌, length, sym, ap, ◌∙◌, subst, arith, ◌+◌, ◌<◌, true, get_or, append-nil, Contains, is_eq}
-use Rattle.xr_block.specs.TimesLaws.{all_of, found_in, times_same}
+use Rattle.xr_block.specs.TimesLaws.{all_of, found_in, times_same, times-append}
 use Rattle.xr_kinds.specs.Form.{Form, IsForm}
 use Rattle.xr_block.specs.FrameLaws.{leaf_same, linked_same}
-use Rattle.xr_pool.specs.Overlay.{Blocks, block_at, free_count, pool_size, with_block}
+use Rattle.xr_pool.specs.Overlay.{Blocks, block_at, free_count, pool_size, with_block, AreKnown}
 use Rattle.xr_pool.specs.OverlayLaws.{block_written}
 use Rattle.xr_block.specs.Rows.{AreRowsOf, IsWholeLeaf, leaves_from}
 use Rattle.xr_block.specs.Times.{times}
@@ -13,9 +13,9 @@ use Rattle.xr_change.proofs.EditLemmas.{leaf_read}
 use Rattle.xr_change.proofs.RowItemLemmas.{row_whole, whole_leaf}
 use Rattle.xr_change.proofs.ReadLemmas.{read_records}
 use Rattle.xr_change.proofs.WriteLemmas.{block_writes, same_count, written_only}
-use Rattle.xr_change.proofs.RowBlockLemmas.{holds_same, not_alone, times_leaves, times_parts, times_append, times_row, same_or_other, used_still, whole_given}
+use Rattle.xr_change.proofs.RowBlockLemmas.{holds_same, not_alone, times_leaves, times_parts, times_row, same_or_other, used_still, whole_given}
 use Rattle.xr_change.proofs.SetLemmas.{IsPlaceFor, stands_at}
-use Rattle.xr_change.specs.Alters.{Alters, AreKnown}
+use Rattle.xr_change.specs.Alters.{Alters}
 use Rattle.xr_change.specs.Changes.{Changes}
 use Rattle.xr_change.specs.Draft.{ReadsAs}
 use Rattle.xr_change.specs.Regroups.{place_named}
@@ -33,7 +33,7 @@ use Rattle.xr_block.specs.NodeEntryLaws.{length-entries}
 
 module _ {X : Type 0} (form : Form X) (b : Blocks) (level n : ℕ) (here : IsInTree form b level n) where
   pub in_row : 1 ≤ times n (here.pre ++ n ∷ here.post)
-  in_row = omega (arith, times_append n here.pre (n ∷ here.post), times_same n here.post)
+  in_row = omega (arith, times-append n here.pre (n ∷ here.post), times_same n here.post)
 
   pub in_pool : n < pool_size b
   in_pool = (here.rows.owned n (omega (arith, in_row, times_row form b n level (here.pre ++ n ∷ here.post)))).below
@@ -130,15 +130,15 @@ module _ {X : Type 0} (form : Form X) (laws : IsForm form) (b : Blocks) (known :
             whole_given least form.leaf_max (leaf_bytes form (site_of b)) (tree_held form b).records (tree_held form after).records
             (block_at b) (block_at after) n records place is holds
             (λ was. written ∙ (now place (leaf_here place was own_place.1.few)).whole) (λ some. omega (arith, low, many)) (now own_place.0 own_place.1).few whole)
-            (λ other. leaf_same form (block_at b) (block_at after) (site_of b) least place (only.others place.number other) whole)) rows.rows);
+            (λ other. leaf_same form (block_at b) (block_at after) (site_of b) least place (only.others place.number other).bytes whole)) rows.rows);
         once = λ m. omega (arith, rows.once m, times_leaves form b m (pre ++ n ∷ post), times_leaves form after m (pre ++ n ∷ post));
         owned = λ m some.
             let used = rows.owned m (omega (arith, some, times_leaves form b m (pre ++ n ∷ post), times_leaves form after m (pre ++ n ∷ post))) in
             used_still b after m writes.same (only.free m ∙ used.taken) used;
       };
       held = λ m used out.
-          (holds_same form b after m (only.others m (apart m out)), only.free m ∙ used, omega (arith, out, times_leaves form b m (n ∷ []), times_leaves form after m (n ∷ [])));
-      bytes = λ least pre post low rows m used out. only.others m (apart m (omega (arith, out, times_parts form b m zero pre (n ∷ []) post)));
+          (holds_same form b after m (only.others m (apart m out)).bytes, only.free m ∙ used, omega (arith, out, times_leaves form b m (n ∷ []), times_leaves form after m (n ∷ [])));
+      untouched = λ least pre post low rows m used out. only.others m (apart m (omega (arith, out, times_parts form b m zero pre (n ∷ []) post)));
       freed = λ m some none. absurd (omega (arith, some, none, times_leaves form b m (n ∷ []), times_leaves form after m (n ∷ [])));
       spare = λ m free out. only.free m ∙ free;
     }

@@ -7,7 +7,7 @@ use Rattle.std.specs.List.{All, AllPairs, Contains}
 use Rattle.std.specs.declared.cmp.Ordering.TheVariants.{Less}
 use Rattle.xr_block.specs.TimesLaws.{found_in}
 use Rattle.xr_kinds.specs.Form.{Form, IsForm}
-use Rattle.xr_pool.specs.Overlay.{Blocks, block_at, changed_blocks}
+use Rattle.xr_pool.specs.Overlay.{Blocks, block_at, changed_blocks, is_changed}
 use Rattle.xr_block.specs.Rows.{min_records, named_below}
 use Rattle.xr_block.specs.Tree.{records_of, site_of, tree_held}
 use Rattle.xr_block.specs.TreeBlock.{Entry, entries_in}
@@ -23,7 +23,7 @@ use Rattle.xr_change.specs.Changes.{HasPath}
 use Rattle.xr_change.specs.Regroups.{IsSameUnder}
 use Rattle.xr_change.specs.Sets.{inserted, removed, replaced}
 use Rattle.xr_change.specs.Paths.{IsInTree, IsOnPath, child_of, item_count}
-use Rattle.xr_change.specs.Writes.{is_changed, unchanged}
+use Rattle.xr_change.specs.Writes.{unchanged}
 use Rattle.xr_block.specs.PartLaws.{all_left, all_right, pairs_left, pairs_right}
 use Rattle.xr_block.specs.UnderLaws.{linked_at}
 

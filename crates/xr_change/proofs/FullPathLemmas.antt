@@ -97,8 +97,8 @@ module _ {X : Type 0} (form : Form X) (laws : IsForm form) (b : Blocks) (level n
       lower_too form.order laws.total (get_or (flat_map under (take k es)) m e) own.first r (form.order own.first r) refl (sym own.same ∙ test d some) (all m e inside))
 
   -- those under children that begin after it
-  behind_all : (k : ℕ) → ((i : ℕ) (d : Entry) → k ≤ i → i < length es → passes (get_or es i d) ≡ false) → Above (records_of form b level (drop k cs))
-  behind_all k fails = subst Above (sym (ap (records_of form b level) (drop-map (λ (e : Entry). e.child) k es) ∙ records_list (drop k es))) (λ m e inside.
+  after_all : (k : ℕ) → ((i : ℕ) (d : Entry) → k ≤ i → i < length es → passes (get_or es i d) ≡ false) → Above (records_of form b level (drop k cs))
+  after_all k fails = subst Above (sym (ap (records_of form b level) (drop-map (λ (e : Entry). e.child) k es) ∙ records_list (drop k es))) (λ m e inside.
       let pairs : AllPairs Ascends (flat_map under (drop k es)) =
       pairs_right Ascends (flat_map under (take k es)) (flat_map under (drop k es))
       (subst (AllPairs Ascends) (ap (flat_map under) (sym (take-append-drop k es)) ∙ flat_map-append under (take k es) (drop k es)) rises) in
@@ -115,7 +115,7 @@ module _ {X : Type 0} (form : Form X) (laws : IsForm form) (b : Blocks) (level n
       record {
         within = within;
         before = in_front k within (λ d more. place.below k d (omega arith) (omega (arith, is, more)));
-        after = behind_all (suc k) (λ i d from inside. place.from i d (omega (arith, is, from)) inside);
+        after = after_all (suc k) (λ i d from inside. place.from i d (omega (arith, is, from)) inside);
       }
 
   -- of two children, by whether the second begins in front of the record
@@ -131,7 +131,7 @@ module _ {X : Type 0} (form : Form X) (laws : IsForm form) (b : Blocks) (level n
   path_first k within fails before = record {
     within = omega (arith, within);
     before = before;
-    after = behind_all (suc k) (λ i d from inside. grind (arith, from, inside, fails d, node_parted form laws b (suc level) level n refl under_n (After r) (k + 1) i d));
+    after = after_all (suc k) (λ i d from inside. grind (arith, from, inside, fails d, node_parted form laws b (suc level) level n refl under_n (After r) (k + 1) i d));
   }
 
 -- whether a child begins in front of a record, as its key is read
@@ -153,18 +153,18 @@ module _ {A : Type 0} (test : A → Bool) where
   front_fails [] y ys fails = rw fails refl
   front_fails (x ∷ xs) y ys fails = ap (λ (n : ℕ). if test x then suc n else 0) (front_fails xs y ys fails)
 
-  passing_behind : (xs ys : List A) → All (λ (x : A). test x ≡ true) xs → passing test (xs ++ ys) ≡ length xs + passing test ys
+  passing_after : (xs ys : List A) → All (λ (x : A). test x ≡ true) xs → passing test (xs ++ ys) ≡ length xs + passing test ys
   unfolding passing
-  passing_behind [] ys all = omega arith
-  passing_behind (x ∷ xs) ys all = grind (arith, all 0 x (omega arith), passing_behind xs ys (λ k d within. all (suc k) d (omega (arith, within))))
+  passing_after [] ys all = omega arith
+  passing_after (x ∷ xs) ys all = grind (arith, all 0 x (omega arith), passing_after xs ys (λ k d within. all (suc k) d (omega (arith, within))))
 
-  behind_passes : (xs : List A) (y : A) (ys : List A) → IsParted test (xs ++ y ∷ ys) → test y ≡ true
+  after_passes : (xs : List A) (y : A) (ys : List A) → IsParted test (xs ++ y ∷ ys) → test y ≡ true
       → passing test (xs ++ y ∷ ys) - 1 ≡ length xs + (passing test (y ∷ ys) - 1)
   unfolding passing
-  behind_passes xs y ys parted passes =
+  after_passes xs y ys parted passes =
       let all = pairs_before (λ (a b : A). test b ≡ true → test a ≡ true) xs y ys parted in
       let some : 1 ≤ passing test (y ∷ ys) = rw passes (omega arith) in
-      omega (arith, some, passing_behind xs (y ∷ ys) (λ k d within. all k d within passes))
+      omega (arith, some, passing_after xs (y ∷ ys) (λ k d within. all k d within passes))
 
 -- the child on the path through the entries of two nodes, as those of one
 module _ {X : Type 0} (form : Form X) (r : X) where
@@ -191,7 +191,7 @@ module _ {X : Type 0} (form : Form X) (r : X) where
   path_after xs (y ∷ ys) more parted passes =
       let long : length (names xs) ≡ length xs = length-map xs (λ (e : Entry). e.child) in
       let place : path_index form r (xs ++ y ∷ ys) ≡ length (names xs) + path_index form r (y ∷ ys) =
-      behind_passes (entry_is_before form (After r)) xs y ys parted (passes y) ∙ ap (λ (n : ℕ). n + path_index form r (y ∷ ys)) (sym long) in
+      after_passes (entry_is_before form (After r)) xs y ys parted (passes y) ∙ ap (λ (n : ℕ). n + path_index form r (y ∷ ys)) (sym long) in
       cc (place, map-append (λ (e : Entry). e.child) xs (y ∷ ys), get_or-append-add (names xs) (names (y ∷ ys)) (path_index form r (y ∷ ys)) 0)
 
 -- 1 for a full block

@@ -4,12 +4,12 @@ use Rattle.std.proofs.lemmas.List.{length-append, length-drop, length-take-le}
 use Rattle.std.specs.Option.{option_to_list}
 use Rattle.xr_block.specs.TimesLaws.{times_other}
 use Rattle.xr_kinds.specs.Form.{Form, IsForm, pointer_size}
-use Rattle.xr_pool.specs.Overlay.{Blocks, block_at}
+use Rattle.xr_pool.specs.Overlay.{Blocks, block_at, AreKnown}
 use Rattle.xr_block.specs.Rows.{AreLinked, min_records}
 use Rattle.xr_block.specs.Times.{times}
 use Rattle.xr_block.specs.Tree.{site_of, tree_held}
 use Rattle.xr_block.specs.TreeBlock.{Place, Site, count_in, sibling, tree_block}
-use Rattle.xr_change.specs.Alters.{AreKnown, IsWholeAt}
+use Rattle.xr_change.specs.Alters.{IsWholeAt}
 use Rattle.xr_change.proofs.RowItemLemmas.{Gathers, block_holds, block_key, block_whole, min_records_is, items_counted, one_flat, two_flat, whole_least, whole_now}
 use Rattle.xr_change.proofs.SiblingLemmas.{links_read, whole_moved}
 use Rattle.xr_change.proofs.WriteLemmas.{for_one, for_two, one_beside, writes_then}
@@ -135,10 +135,10 @@ module _ {X : Type 0} (form : Form X) (laws : IsForm form) (a : Blocks) (known :
         let h : ℕ = count / 2 in
         let halved : min_records form level ≡ h = min_records_is form level ∙ ap (λ (n : ℕ). n / 2) (sym full ∙ sym size.0 ∙ sym counted) in
         let front : IsDealt form a level z low_place (take h xs) =
-        gathered c c placed placed b z (site_of a) refl 0 h low_place (take h xs) low (third.others c (not_next c next placed.right_apart) ∙ one_beside b d m second c apart)
+        gathered c c placed placed b z (site_of a) refl 0 h low_place (take h xs) low ((third.others c (not_next c next placed.right_apart)).bytes ∙ one_beside b d m second c apart)
         (first_stretch xs xs h (omega (arith, all))) (omega (arith, halved, length-take-le h xs (omega (arith, all)))) in
         let rest : IsDealt form a level z high_place (drop h xs) =
-        gathered c c placed placed d z (site_of b) first.same.site h count high_place (drop h xs) high (third.others m (not_next m next beside))
+        gathered c c placed placed d z (site_of b) first.same.site h count high_place (drop h xs) high (third.others m (not_next m next beside)).bytes
         (other_stretch xs xs h count (omega arith) all) (omega (arith, halved, all, length-drop h xs)) in
         record {
           writes = writes_then a d z (c ∷ m ∷ []) (writes_then a b d (c ∷ []) first (m ∷ []) second) (option_to_list next) third;
@@ -209,7 +209,7 @@ module _ {X : Type 0} (form : Form X) (laws : IsForm form) (a : Blocks) (known :
         let next : Option ℕ = right_in form (block_at a d) in
         let least = whole_least form a level (min_records form level) (place_named form a level c) placed.whole in
         let all : IsDealt form a level z (record (place_named form a level c) { right = next }) (xs ++ ys) =
-        gathered c d placed after b z (site_of a) refl 0 total (record (place_named form a level c) { right = next }) (xs ++ ys) whole (second.others c (not_next c next beside))
+        gathered c d placed after b z (site_of a) refl 0 total (record (place_named form a level c) { right = next }) (xs ++ ys) whole (second.others c (not_next c next beside)).bytes
         (whole_stretch xs ys total all_long) (omega (arith, length-append xs ys, items_counted form a level c, least)) in
         record {
           writes = writes_then a b z (c ∷ []) first (option_to_list next) second;

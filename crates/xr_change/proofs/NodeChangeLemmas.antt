@@ -4,7 +4,7 @@ use Rattle.std.proofs.lemmas.List.Concat.{flat_map-append}
 use Rattle.std.proofs.lemmas.List.Elements.{All-append, All-drop, All-map, All-take}
 use Rattle.std.proofs.Math.ListN.{get_or-append}
 use Rattle.std.proofs.lemmas.List.{drop-map, get_or-append-add, length-append, length-drop, length-map, length-take-le, map-append, take-map}
-use Rattle.xr_block.specs.TimesLaws.{found_in, times_of}
+use Rattle.xr_block.specs.TimesLaws.{found_in, times_of, times-append}
 use Rattle.xr_kinds.specs.Form.{Form}
 use Rattle.xr_block.specs.FrameLaws.{flat_map_same, linked_same, node_same}
 use Rattle.xr_pool.specs.Overlay.{Blocks, block_at, is_free}
@@ -16,7 +16,7 @@ use Rattle.xr_change.proofs.SameItemLemmas.{GivesKey, each_key, entries_named, k
 use Rattle.xr_block.specs.PartLaws.{all_left, all_right}
 use Rattle.xr_change.proofs.SiblingLemmas.{whole_as}
 use Rattle.xr_change.proofs.NodeContextLemmas.{children_around, row_has, row_joined}
-use Rattle.xr_change.proofs.RowBlockLemmas.{HoldSame, below, blocks_same, children, held_beside, holds_same, holds_then, key_same, not_alone, pool_then, records_same, records_under_node, rows_named, rows_stay, still_out, times_after, times_append, times_below, times_blocks_append, times_parts, times_row, times_under, same_or_other, used_still, whole_given}
+use Rattle.xr_change.proofs.RowBlockLemmas.{HoldSame, below, blocks_same, children, held_beside, holds_same, holds_then, key_same, not_alone, pool_then, records_same, records_under_node, rows_named, rows_stay, still_out, times_after, times_below, times_blocks_append, times_parts, times_row, times_under, same_or_other, untouched_then, used_still, whole_given}
 use Rattle.xr_change.proofs.WriteLemmas.{times_is}
 use Rattle.xr_change.specs.Alters.{HoldsSame, IsWholeAt, Alters, AreRowsIn, IsSamePool, Takes}
 use Rattle.xr_change.specs.Regroups.{HasNewLeft, entry_for, HoldsNow, IsSameUnder, NamesChildren, Regroups}
@@ -72,7 +72,7 @@ module _ {X : Type 0} (form : Form X) (a b : Blocks) (level n : ℕ) (front old 
         let used = known.owned m (omega (arith, some, times_all m)) in
         let out : times m (blocks_of form a level (left ++ (old ++ right))) ≡ 0 = omega (arith, some, known.once m, times_all m) in
         let still = still_out form a b level old new one.held (min_records form level) left right down m used.taken out in
-        (one.bytes left right down m used.taken out, still.0, still.1)
+        ((one.untouched left right down m used.taken out).bytes, still.0, still.1)
 
     -- the node has the bytes that it had before the change below it
     pub node_stays : block_at b n ≡ block_at a n
@@ -82,14 +82,14 @@ module _ {X : Type 0} (form : Form X) (a b : Blocks) (level n : ℕ) (front old 
     pub sibling_held : (k : ℕ) → 1 ≤ times k front + times k after → HoldsSame form a b k
     sibling_held k some =
         (held_beside form a b level old new one.held (min_records form level) left right down k
-        (omega (arith, some, times_append, times_row form a k level left, times_row form a k level right))).0
+        (omega (arith, some, times-append, times_row form a k level left, times_row form a k level right))).0
 
     module _ (d : Blocks) (naming : NamesChildren form a b d level n (front ++ (new ++ after))) where
       another : (k : ℕ) → 1 ≤ times k (blocks_of form b level (left ++ (new ++ right))) → k ≡ n → ⊥
       another k some is = absurd (omega (arith, (untouched n (row_has n n pre post refl)).2, rw is at some))
 
       below_mended : HoldSame form b d (blocks_of form b level (left ++ (new ++ right)))
-      below_mended k some = holds_same form b d k (naming.only.others k (another k some))
+      below_mended k some = holds_same form b d k (naming.only.others k (another k some)).bytes
 
       -- what stands below beside the child holds what it held
       beside : (k : ℕ) → 1 ≤ times k (blocks_of form a level left) + times k (blocks_of form a level right) → HoldsSame form a d k
@@ -100,25 +100,25 @@ module _ {X : Type 0} (form : Form X) (a b : Blocks) (level n : ℕ) (front old 
       down_mended : AreRowsIn form d (min_records form level) level (left ++ (new ++ right))
       down_mended =
           rows_stay form b d (min_records form level) level (left ++ (new ++ right)) down_after naming.only.same
-          (λ m some. (naming.only.others m (another m some), naming.only.free m ∙ (down_after.owned m some).taken))
+          (λ m some. ((naming.only.others m (another m some)).bytes, naming.only.free m ∙ (down_after.owned m some).taken))
 
       names_now : named_below (tree_held form d) n ≡ front ++ (new ++ after)
       names_now = ap (map (λ (e : Entry). e.child)) naming.now.holds ∙ naming.names
 
       -- another node of the row
       bytes_same : (m : ℕ) → 1 ≤ times m row → (m ≡ n → ⊥) → block_at d m ≡ block_at a m
-      bytes_same m some other = naming.only.others m other ∙ (untouched m some).0
+      bytes_same m some other = (naming.only.others m other).bytes ∙ (untouched m some).0
 
       -- the nodes before and after it have other numbers
       other_than : (m : ℕ) → 1 ≤ times m pre + times m post → m ≡ n → ⊥
       other_than m some same =
-          absurd (omega (arith, some, times_append, times_is m n post (sym same), known.once m, times_all m))
+          absurd (omega (arith, some, times-append, times_is m n post (sym same), known.once m, times_all m))
 
       entries_beside : (ms : List ℕ) → ((m : ℕ) → 1 ≤ times m ms → 1 ≤ times m pre + times m post) → flat_map (tree_held form d).entries ms ≡ flat_map (tree_held form a).entries ms
       entries_beside ms within =
           flat_map_same (tree_held form d).entries (tree_held form a).entries ms
           (λ m there. let some = within m (times_of ms m there) in
-          ap (entries_in form) (bytes_same m (omega (arith, some, times_append, times_append m (n ∷ []) post)) (other_than m some)))
+          ap (entries_in form) (bytes_same m (omega (arith, some, times-append, times-append m (n ∷ []) post)) (other_than m some)))
 
       entries_now : flat_map (tree_held form d).entries row ≡ flat_map (tree_held form a).entries pre ++ (naming.entries ++ flat_map (tree_held form a).entries post)
       entries_now =
@@ -153,14 +153,14 @@ module _ {X : Type 0} (form : Form X) (a b : Blocks) (level n : ℕ) (front old 
           let own : All has naming.entries =
           keys_stay form (tree_held form b) (tree_held form d) level naming.entries
           (λ k some. key_same form b d level k
-          (below_mended k (omega (arith, some, ap (times k) naming.names, times_append, times_row form b k level (left ++ (new ++ right))))))
+          (below_mended k (omega (arith, some, ap (times k) naming.names, times-append, times_row form b k level (left ++ (new ++ right))))))
           (same_each (λ (e : Entry). e.key) (λ (e : Entry). e.child) (key_held form (tree_held form b) level) naming.entries
           (naming.keys ∙ ap (map (key_held form (tree_held form b) level)) (sym naming.names))) in
           entries_named form (tree_held form d) level row (rw entries_now
           (All-append has before (naming.entries ++ after)
-          (keyed_beside pre (λ k some. omega (arith, some, times_append)) (all_left was before (entries_in form (block_at a n) ++ after) held))
+          (keyed_beside pre (λ k some. omega (arith, some, times-append)) (all_left was before (entries_in form (block_at a n) ++ after) held))
           (All-append has naming.entries after own
-          (keyed_beside post (λ k some. omega (arith, some, times_append))
+          (keyed_beside post (λ k some. omega (arith, some, times-append))
           (all_right was (entries_in form (block_at a n)) after (all_right was before (entries_in form (block_at a n) ++ after) held))))))
 
       mended_pool : IsSamePool a d
@@ -228,14 +228,15 @@ module _ {X : Type 0} (form : Form X) (a b : Blocks) (level n : ℕ) (front old 
         rows = λ least pre post low known. rows_mended least pre post known d naming (many least low);
         held = λ m used out.
             let kept = one.held m used (omega (arith, out, before m)) in (
-              holds_then form a b d m kept.0 (holds_same form b d m (only.others m (not_alone m n (omega (arith, out, before m))))),
+              holds_then form a b d m kept.0 (holds_same form b d m (only.others m (not_alone m n (omega (arith, out, before m)))).bytes),
               only.free m ∙ kept.1,
               omega (arith, out, before m, after m, kept.2),
             );
-        bytes = λ least pre post low known m used out.
+        untouched = λ least pre post low known m used out.
             let all = times_all least pre post known m in
-            only.others m (not_alone m n (omega (arith, out, all, times_append, times_append m (n ∷ []) post)))
-            ∙ one.bytes (left least pre post known) (right least pre post known) (down least pre post known) m used (omega (arith, out, all));
+            untouched_then a b d m
+            (one.untouched (left least pre post known) (right least pre post known) (down least pre post known) m used (omega (arith, out, all)))
+            (only.others m (not_alone m n (omega (arith, out, all, times-append, times-append m (n ∷ []) post))));
         freed = λ m some none. only.free m ∙ one.freed m (omega (arith, some, none, before m, after m)) (omega (arith, none, after m));
         spare = λ m free out. only.free m ∙ one.spare m free (omega (arith, out, after m));
       }

@@ -1,19 +1,19 @@
--- Rows that are linked, bound in two and joined, and some blocks of a row with what stands beside them there.
+-- Rows that are linked, split in two and joined, and some blocks of a row with what stands beside them there.
 use Rattle.std.proofs.Common.{◌≡◌, ℕ, ◌+◌, ◌≤◌, Option, Some, None, List, [], ◌∷◌, ◌++◌, refl, sym, ap, subst, arith, inl, inr, ◌⊎◌, suc, ◌∙◌, append_assoc}
 use Rattle.std.proofs.lemmas.List.Concat.{flat_map-append}
 use Rattle.std.specs.List.{last_or}
-use Rattle.xr_block.specs.TimesLaws.{times_more, times_same}
+use Rattle.xr_block.specs.TimesLaws.{times_more, times_same, times-append}
 use Rattle.xr_kinds.specs.Form.{Form, IsForm}
-use Rattle.xr_pool.specs.Overlay.{Blocks, block_at}
+use Rattle.xr_pool.specs.Overlay.{Blocks, block_at, AreKnown}
 use Rattle.xr_block.specs.Rows.{AreLinked, first_of, min_records, named_below}
 use Rattle.xr_block.specs.Times.{times}
 use Rattle.xr_block.specs.Tree.{blocks_of, site_of, tree_held}
 use Rattle.xr_block.specs.TreeBlock.{Place}
 use Rattle.xr_change.proofs.SameItemLemmas.{row_linked, times_rows}
 use Rattle.xr_change.proofs.SiblingLemmas.{right_read}
-use Rattle.xr_change.proofs.RowBlockLemmas.{below, children, times_append, same_or_other}
+use Rattle.xr_change.proofs.RowBlockLemmas.{below, children, same_or_other}
 use Rattle.xr_change.proofs.WriteLemmas.{times_is}
-use Rattle.xr_change.specs.Alters.{AreKnown, AreRowsIn, IsWholeAt}
+use Rattle.xr_change.specs.Alters.{AreRowsIn, IsWholeAt}
 use Rattle.xr_change.specs.Regroups.{blocks_below}
 use Rattle.xr_block.specs.Checks.{right_in}
 
@@ -26,7 +26,7 @@ first_of-append [] ys right = refl
 first_of-append (x ∷ xs) ys right = refl
 
 pub row_has : (m n : ℕ) (pre post : List ℕ) → m ≡ n → 1 ≤ times m (pre ++ n ∷ post)
-row_has m n pre post same = rw same (omega (arith, times_append n pre (n ∷ post), times_same n post))
+row_has m n pre post same = rw same (omega (arith, times-append n pre (n ∷ post), times_same n post))
 
 pub last_within : (x : ℕ) (xs : List ℕ) (last : ℕ) → last_or (Some x) xs ≡ Some last → 1 ≤ times last (x ∷ xs)
 last_within x [] last is =
@@ -115,7 +115,7 @@ module _ {X : Type 0} (form : Form X) (b : Blocks) (level : ℕ) (pre old post :
 
   pub counted : (m : ℕ) → times m (blocks_of form b level (pre ++ (old ++ post)))
       ≡ (times m pre + (times m old + times m post)) + times m (blocks_below form b level (pre ++ (old ++ post)))
-  counted m = omega (arith, times_rows form b m level (pre ++ (old ++ post)), times_append m pre (old ++ post), times_append m old post)
+  counted m = omega (arith, times_rows form b m level (pre ++ (old ++ post)), times-append m pre (old ++ post), times-append m old post)
 
   pub row_parts : AreLinked P (block_at b) level None pre (first_of (old ++ post) None)
       × AreLinked P (block_at b) level (last_or None pre) old (first_of post None) × AreLinked P (block_at b) level (last_or (last_or None pre) old) post None

@@ -5,7 +5,7 @@ use Rattle.std.proofs.lemmas.List.{length-append, length-map}
 use Rattle.std.specs.List.{last_or}
 use Rattle.xr_block.specs.TimesLaws.{all_of, distinct_of, few_of, times_same}
 use Rattle.xr_kinds.specs.Form.{Form, IsForm}
-use Rattle.xr_pool.specs.Overlay.{Blocks, block_at, is_free, pool_size}
+use Rattle.xr_pool.specs.Overlay.{Blocks, block_at, is_free, pool_size, AreKnown}
 use Rattle.xr_block.specs.Rows.{AreLinked, first_of, min_records, named_below, rows_from}
 use Rattle.xr_block.specs.Times.{times}
 use Rattle.xr_block.specs.Tree.{IsUsed, blocks_of, site_of, tree_held}
@@ -17,7 +17,7 @@ use Rattle.xr_change.proofs.NodeContextLemmas.{counted, last_within, next_within
 use Rattle.xr_change.proofs.DescentLemmas.{child_in_rows, row_around}
 use Rattle.xr_change.proofs.RowBlockLemmas.{below, children, times_below, times_row}
 use Rattle.xr_change.proofs.WriteLemmas.{two_around}
-use Rattle.xr_change.specs.Alters.{AreKnown, AreRowsIn, IsWholeAt}
+use Rattle.xr_change.specs.Alters.{AreRowsIn, IsWholeAt}
 use Rattle.xr_change.specs.Regroups.{IsBlockOf, IsBetweenSiblings, blocks_below, items_in, place_named}
 use Rattle.xr_change.specs.Paths.{IsInTree, IsChildAt, child_of}
 use Rattle.xr_block.specs.Edits.{IsNodeOf}

@@ -1,4 +1,4 @@
--- A split of a child of a node, a sharing of the items of two children, and a merge of two, step by step: the items are moved, and the node gets the keys.
+-- A split of a child of a node, a rebalancing of two children, and a merge of two, step by step: the items are moved, and the node gets the keys.
 use Rattle.std.proofs.Common.{◌≡◌, ℕ, suc, ◌+◌, ◌*◌, ◌^◌, ◌<◌, ◌≤◌, true, false, Option, Some, List, [], ◌∷◌, ◌++◌, length, map, take, drop, get_or, set, refl, sym, ap, ◌∙◌, subst, arith}
 use Rattle.std.proofs.lemmas.Bool.Decides.{nat_tests}
 use Rattle.std.proofs.lemmas.List.{drop-drop, get_or-set_other, length-drop, length-map, length-set}
@@ -8,7 +8,7 @@ use Rattle.xr_block.specs.TimesLaws.{times_other, times_same}
 use Rattle.xr_pool.specs.BitLaws.{bit_cleared, bit_cleared_other, bit_set, bit_set_other}
 use Rattle.xr_pool.specs.Bits.{has_bit}
 use Rattle.xr_kinds.specs.Form.{Form, IsForm}
-use Rattle.xr_pool.specs.Overlay.{Blocks, block_at, free_count, is_free, pool_size, with_given, with_taken}
+use Rattle.xr_pool.specs.Overlay.{Blocks, block_at, free_count, is_changed, is_free, pool_size, with_given, with_taken}
 use Rattle.xr_block.specs.Rows.{key_held, named_below}
 use Rattle.xr_block.specs.Times.{times}
 use Rattle.xr_block.specs.Tree.{IsUsed, blocks_of, site_of, tree_held}
@@ -25,7 +25,7 @@ use Rattle.xr_change.proofs.RowBlockLemmas.{children, holds_same, times_parts}
 use Rattle.xr_change.proofs.WriteLemmas.{for_one, for_two, next_few, one_around, one_beside, set_around, set_then, taken_count, two_once, unchanged_less, unmarked_few, writes_again, written_only}
 use Rattle.xr_change.specs.Regroups.{MovesItems, GivesKey, IsBetweenSiblings, Regroups, entry_for, items_in, place_named}
 use Rattle.xr_change.specs.Paths.{IsChildAt, child_of, item_count, max_records}
-use Rattle.xr_change.specs.Writes.{MarksAtMost, Writes, is_changed, unchanged}
+use Rattle.xr_change.specs.Writes.{MarksAtMost, Writes, unchanged}
 use Rattle.xr_block.specs.Edits.{IsNodeOf, with_key}
 use Rattle.xr_block.specs.Checks.{right_in}
 
@@ -115,16 +115,16 @@ module _ {X : Type 0} {form : Form X} (laws : IsForm form) {a : Blocks} {level n
                 takes = takes;
                 naming = node_names form a o level n k t (c ∷ olds) (c ∷ news) moves.around takes at.least at.pre at.post at.rows z only
                     (holds_now form laws a n place node z next has) (has_few form laws a n place node z next has);
-                items = items_later form a o z level (c ∷ olds) (c ∷ news) moves.items (λ m there. only.others m (moves.apart m there));
+                items = items_later form a o z level (c ∷ olds) (c ∷ news) moves.items (λ m there. (only.others m (moves.apart m there)).bytes);
                 records = moves_records laws kth.known moves left right rows;
                 below = λ m some.
-                    holds_same form a z m (only.others m (apart_from form laws a level n k c kth m (omega (
+                    holds_same form a z m ((only.others m (apart_from form laws a level n k c kth m (omega (
                       arith,
                       some,
                       ap (λ (ms : List ℕ). times m (blocks_of form a level ms)) (children_around form a n (take k cs) (c ∷ olds) (drop t cs) moves.around at.pre at.post),
                       times_parts form a m level left (c ∷ olds) right,
                       times_rows form a m level (c ∷ olds),
-                    ))) ∙ moves_below laws kth.known moves left right rows m some);
+                    )))).bytes ∙ moves_below laws kth.known moves left right rows m some);
                 spare = λ m free out. only.free m ∙ grind (arith, free, out, moves.free m, moves.freed m);
               }
 
@@ -192,7 +192,9 @@ module _ {X : Type 0} {form : Form X} (laws : IsForm form) {a : Blocks} {level n
         linked = s.linked;
         items = s.items;
         next = s.next;
-        others = λ x was is beside. s.writes.others x (omega (arith, is, not_next x next (λ q right same. beside (right ∙ ap Some same))));
+        others = λ x was is beside.
+            let still = s.writes.others x (omega (arith, is, not_next x next (λ q right same. beside (right ∙ ap Some same)))) in
+            record { bytes = still.bytes; mark = still.mark };
         once = two_once c m (not_spare c child.used.taken);
         taken = for_two (λ (x : ℕ). times x (c ∷ []) ≡ 0 → (is_free a x ≡ true) × (1 ≤ x) × (x < pool_size a)) c m
             (λ lie. absurd (omega (arith, lie, times_same c []))) (λ only. (spare, range.0, range.1));
@@ -201,8 +203,8 @@ module _ {X : Type 0} {form : Form X} (laws : IsForm form) {a : Blocks} {level n
         freed = λ x some lie. absurd (omega (arith, some, lie));
         free = λ x was is. free_now x (λ same. grind (arith, nat_tests, is, same));
         around = rw (let e : k + 1 ≡ suc k = omega arith in e) (one_around cs k c (omega (arith, kth.within, length-map es (λ (x : Entry). x.child))) (sym kth.is));
-        kept = s.writes.others n (times_other n c (m ∷ option_to_list next) child.apart ∙ times_other n m (option_to_list next) node_apart
-            ∙ not_next n next (λ q right. child.next_apart q right));
+        kept = (s.writes.others n (times_other n c (m ∷ option_to_list next) child.apart ∙ times_other n m (option_to_list next) node_apart
+            ∙ not_next n next (λ q right. child.next_apart q right))).bytes;
         apart = for_two (λ (x : ℕ). x ≡ n → ⊥) c m child.apart node_apart;
         below = for_two (λ (x : ℕ). x < pool_size a) c m child.used.below range.1;
         keyed = s.keyed;
@@ -238,8 +240,8 @@ module _ {X : Type 0} {form : Form X} (laws : IsForm form) {a : Blocks} {level n
     next_place : k + 1 ≡ suc k
     next_place = omega arith
 
-    behind_both : drop 1 (drop (suc k) es) ≡ drop (k + 2) es
-    behind_both = drop-drop 1 (suc k) es ∙ ap (λ (i : ℕ). drop i es) (let e : suc k + 1 ≡ k + 2 = omega arith in e)
+    after_both : drop 1 (drop (suc k) es) ≡ drop (k + 2) es
+    after_both = drop-drop 1 (suc k) es ∙ ap (λ (i : ℕ). drop i es) (let e : suc k + 1 ≡ k + 2 = omega arith in e)
 
     within : suc k < length es
     within = omega (arith, kth_next.within)
@@ -271,7 +273,7 @@ module _ {X : Type 0} {form : Form X} (laws : IsForm form) {a : Blocks} {level n
         freed = λ x some lie. absurd (omega (arith, some, lie));
         free = λ x was is. free_same x;
         around = pair_around form laws a level n k c d kth kth_next;
-        kept = s.writes.others n (times_other n c (d ∷ []) pair.first.apart ∙ times_other n d [] pair.second.apart);
+        kept = (s.writes.others n (times_other n c (d ∷ []) pair.first.apart ∙ times_other n d [] pair.second.apart)).bytes;
         apart = for_two (λ (x : ℕ). x ≡ n → ⊥) c d pair.first.apart pair.second.apart;
         below = for_two (λ (x : ℕ). x < pool_size a) c d pair.first.used.below pair.second.used.below;
         keyed = s.keyed;
@@ -292,7 +294,7 @@ module _ {X : Type 0} {form : Form X} (laws : IsForm form) {a : Blocks} {level n
           let all = made rebalance_moves w edits v (with_key (k + 1) (key_held form (tree_held form e) level d)) again
           (keyed_is (set es k first) (k + 1) d (key_held form (tree_held form e) level d) none (omega (arith, kth_next.within, length-set es k first)) child_next
           ∙ rw (next_place, later rebalance_moves w edits d there) (set_then (λ (entries : List Entry) (i : ℕ). set entries i second) (λ z zs i. refl) es k first kth.within
-          ∙ ap (λ (rest : List Entry). take k es ++ first ∷ rest) (set_around (drop (suc k) es) 0 second (omega (arith, within, length-drop (suc k) es)) ∙ rw behind_both refl))) in
+          ∙ ap (λ (rest : List Entry). take k es ++ first ∷ rest) (set_around (drop (suc k) es) 0 second (omega (arith, within, length-drop (suc k) es)) ∙ rw after_both refl))) in
           let same : item_count form z level c ≡ count =
           items_counted form z level c ∙ ap (λ (bytes : List ℕ). length (items_in form level bytes)) (one_beside b z n (over rebalance_moves w edits v) c pair.first.apart)
           ∙ sym (items_counted form b level c) ∙ counted in (
@@ -322,14 +324,16 @@ module _ {X : Type 0} {form : Form X} (laws : IsForm form) {a : Blocks} {level n
         linked = s.linked;
         items = s.items;
         next = s.next;
-        others = λ x was is beside. s.writes.others x (omega (arith, is, not_next x after (λ q right same. beside (right ∙ ap Some same))));
+        others = λ x was is beside.
+            let still = s.writes.others x (omega (arith, is, not_next x after (λ q right same. beside (right ∙ ap Some same)))) in
+            record { bytes = still.bytes; mark = still.mark };
         once = λ x. omega (arith, two_once c d pair.apart x);
         taken = λ x some out. absurd (omega (arith, some, out));
         used = for_one (λ (x : ℕ). is_free (with_given b d) x ≡ false) c (merge_free c pair.apart ∙ pair.first.used.taken);
         freed = for_two (λ (x : ℕ). times x (c ∷ []) ≡ 0 → is_free (with_given b d) x ≡ true) c d (λ lie. absurd (omega (arith, lie, times_same c []))) (λ gone. bit_set b.free d merge_room);
         free = λ x was is. merge_free x (λ same. grind (arith, nat_tests, was, same));
         around = pair_around form laws a level n k c d kth kth_next;
-        kept = s.writes.others n (times_other n c (option_to_list after) pair.first.apart ∙ not_next n after (λ q right. pair.second.next_apart q right));
+        kept = (s.writes.others n (times_other n c (option_to_list after) pair.first.apart ∙ not_next n after (λ q right. pair.second.next_apart q right))).bytes;
         apart = for_one (λ (x : ℕ). x ≡ n → ⊥) c pair.first.apart;
         below = for_one (λ (x : ℕ). x < pool_size a) c pair.first.used.below;
         keyed = s.keyed;
@@ -343,7 +347,7 @@ module _ {X : Type 0} {form : Form X} (laws : IsForm form) {a : Blocks} {level n
         × MarksAtMost a z (unchanged a n + 3) × ((is_changed z n ≡ true) × (is_changed z x ≡ true)))
     merge_made {o = o} {z = z} moves w edits v cuts =
         let all = made moves w edits v (λ (entries : List Entry). remove entries (k + 1)) cuts
-        (rw next_place (set_then remove (λ z zs i. refl) es k (entry_for form o level c) kth.within ∙ rw (behind_both) refl)) in (
+        (rw next_place (set_then remove (λ z zs i. refl) es k (entry_for form o level c) kth.within ∙ rw (after_both) refl)) in (
           subst (λ (y : ℕ). Regroups form a z level n k (k + 2) (child_of form a n k ∷ y ∷ []) (child_of form a n k ∷ [])) kth_next.is all.0,
           all.1,
           (all.2, all.3),

@@ -2,7 +2,7 @@
 use Rattle.std.proofs.Common.{take, drop, ◌≡◌, ℕ, ◌+◌, ◌<◌, ◌≤◌, true, false, Option, Some, None, List, ◌∷◌, ◌++◌, refl, sym, ap, ◌∙◌, subst, arith, ⊎_elim}
 use Rattle.std.specs.List.{last_or}
 use Rattle.xr_kinds.specs.Form.{Form, IsForm}
-use Rattle.xr_pool.specs.Overlay.{Blocks, block_at, is_free, pool_size}
+use Rattle.xr_pool.specs.Overlay.{Blocks, block_at, is_changed, is_free, pool_size, AreKnown}
 use Rattle.xr_block.specs.Rows.{AreLinked, AreRowsOf, first_of, min_records, named_below}
 use Rattle.xr_block.specs.Times.{times}
 use Rattle.xr_block.specs.Tree.{IsUsed, blocks_of, records_of, site_of, tree_held}
@@ -11,10 +11,11 @@ use Rattle.xr_change.proofs.SameItemLemmas.{items_append, items_same, records_re
 use Rattle.xr_change.proofs.NodeContextLemmas.{counted, first_after, first_within, is_some_of, last_names, linked_after, linked_joined, linked_stays, row_parts}
 use Rattle.xr_change.proofs.SiblingLemmas.{block_of, with_left_holds}
 use Rattle.xr_change.proofs.NodeChangeLemmas.{whole_with_left}
-use Rattle.xr_change.proofs.RowBlockLemmas.{holds_same, times_append, times_row}
-use Rattle.xr_change.specs.Alters.{AreKnown, AreRowsIn, HoldsSame, IsSamePool, IsWholeAt, Takes}
+use Rattle.xr_change.proofs.RowBlockLemmas.{holds_same, times_row}
+use Rattle.xr_block.specs.TimesLaws.{times-append}
+use Rattle.xr_change.specs.Alters.{AreRowsIn, HoldsSame, IsSamePool, IsUntouched, IsWholeAt, Takes}
 use Rattle.xr_change.specs.Regroups.{GivesKey, HaveSameItems, HasNewLeft, StayLinked, blocks_below}
-use Rattle.xr_change.specs.Writes.{MarksAtMost, is_changed}
+use Rattle.xr_change.specs.Writes.{MarksAtMost}
 use Rattle.xr_block.specs.Checks.{right_in}
 
 -- c and the blocks after it are taken for c and others with the same items, and the node n that names them as its k-th and the next is as it was
@@ -28,7 +29,7 @@ pub record Moves {X : Type 0} (form : Form X) (before after : Blocks) (level n k
   pub items : HaveSameItems form before after level (c ∷ olds) (c ∷ news)
   -- the block after them in their level is linked to the last of them, and nothing else is touched
   pub next : (q : ℕ) → right_in form (block_at before last) ≡ Some q → HasNewLeft form before after q last last'
-  pub others : (m : ℕ) → times m (c ∷ olds) ≡ 0 → times m (c ∷ news) ≡ 0 → (right_in form (block_at before last) ≡ Some m → ⊥) → block_at after m ≡ block_at before m
+  pub others : (m : ℕ) → times m (c ∷ olds) ≡ 0 → times m (c ∷ news) ≡ 0 → (right_in form (block_at before last) ≡ Some m → ⊥) → IsUntouched before after m
   -- blocks that come in were free, and those that leave are
   pub once : (m : ℕ) → times m (c ∷ news) ≤ 1
   pub taken : (m : ℕ) → 1 ≤ times m (c ∷ news) → times m (c ∷ olds) ≡ 0 → (is_free before m ≡ true) × (1 ≤ m) × (m < pool_size before)
@@ -83,18 +84,18 @@ module _ {X : Type 0} {form : Form X} (laws : IsForm form) {before after : Block
     others_hold : (m : ℕ) → is_free before m ≡ false → times m old ≡ 0 → HoldsSame form before after m
     others_hold m used without = ⊎_elim
         (λ (is : right_in form (block_at before r.last) ≡ Some m). next_holds m is)
-        (λ (beside : right_in form (block_at before r.last) ≡ Some m → ⊥). holds_same form before after m (r.others m without (not_new m used without) beside))
+        (λ (beside : right_in form (block_at before r.last) ≡ Some m → ⊥). holds_same form before after m (r.others m without (not_new m used without) beside).bytes)
         (is_some_of (right_in form (block_at before r.last)) m)
 
     apart : (m : ℕ) → 1 ≤ times m left + (times m right + times m (blocks_below form before level row)) → (is_free before m ≡ false) × (times m old ≡ 0)
     apart m some = ((rows.owned m (omega (arith, some, here m))).taken, omega (arith, some, here m, rows.once m))
 
-    untouched : (m : ℕ) → is_free before m ≡ false → times m old ≡ 0 → (first_of right None ≡ Some m → ⊥) → block_at after m ≡ block_at before m
+    untouched : (m : ℕ) → is_free before m ≡ false → times m old ≡ 0 → (first_of right None ≡ Some m → ⊥) → IsUntouched before after m
     untouched m used without beside = r.others m without (not_new m used without) (λ is. beside (sym right_of_old ∙ is))
 
     stays : (m : ℕ) → 1 ≤ times m left + times m (blocks_below form before level row) → block_at after m ≡ block_at before m
     stays m some =
-        let out = apart m (omega (arith, some)) in untouched m out.0 out.1 (λ is. absurd (omega (arith, some, first_within right m is, here m, rows.once m)))
+        let out = apart m (omega (arith, some)) in (untouched m out.0 out.1 (λ is. absurd (omega (arith, some, first_within right m is, here m, rows.once m)))).bytes
 
     below_stays : (m : ℕ) → 1 ≤ times m (blocks_below form before level row) → block_at after m ≡ block_at before m
     below_stays m some = stays m (omega (arith, some))
@@ -113,20 +114,20 @@ module _ {X : Type 0} {form : Form X} (laws : IsForm form) {before after : Block
         let Q : Place → List ℕ → Type 0 = IsWholeAt form (site_of before) (tree_held form after) level (min_records form level) in
         let o : Option ℕ = last_or None left in
         let parts = row_parts form before level left old right rows in
-        let behind_it : AreLinked Q (block_at after) level (Some r.last') right None =
+        let after_it : AreLinked Q (block_at after) level (Some r.last') right None =
         linked_after P Q (block_at before) (block_at after) level (Some r.last) (Some r.last') right None
         (λ m. omega (arith, here m, rows.once m))
         (λ q is place at low near whole.
         whole_with_left form before after q r.last r.last' (min_records form level) level place at near (r.next q (right_of_old ∙ is)) (next_holds q (right_of_old ∙ is)) whole)
         (λ place low some beside whole.
         let out = apart place.number (omega (arith, some)) in
-        whole_same form before after (site_of before) (min_records form level) level place (untouched place.number out.0 out.1 beside) whole)
+        whole_same form before after (site_of before) (min_records form level) level place (untouched place.number out.0 out.1 beside).bytes whole)
         (subst (λ (l : Option ℕ). AreLinked P (block_at before) level l right None) r.last_is parts.2) in
         linked_joined Q (block_at after) level None left (new ++ right) None
         (linked_stays P Q (block_at before) (block_at after) level None left (first_of (new ++ right) None)
         (λ place low some whole. whole_same form before after (site_of before) (min_records form level) level place (stays place.number (omega (arith, some))) whole) parts.0)
         (linked_joined Q (block_at after) level o new right None (r.linked o (first_of right None) parts.1)
-        (subst (λ (l : Option ℕ). AreLinked Q (block_at after) level l right None) (sym r.last_now) behind_it))
+        (subst (λ (l : Option ℕ). AreLinked Q (block_at after) level l right None) (sym r.last_now) after_it))
 
     counted_now : (m : ℕ) → times m (blocks_of form after level row_now) + times m old ≡ times m (blocks_of form before level row) + times m new
     counted_now m =
@@ -135,8 +136,8 @@ module _ {X : Type 0} {form : Form X} (laws : IsForm form) {before after : Block
           ap (times m) (rest_regrouped form before after row row_now level items_now below_stays),
           here m,
           times_rows form after m level row_now,
-          times_append m left (new ++ right),
-          times_append m new right,
+          times-append m left (new ++ right),
+          times-append m new right,
         )
 
     -- a block that comes in stood nowhere
@@ -183,7 +184,7 @@ module _ {X : Type 0} {form : Form X} (laws : IsForm form) {before after : Block
             let without : times m old ≡ 0 = omega (arith, none, times_row form before m level old) in
             let out : times m new ≡ 0 = not_new m used without in
             (others_hold left right rows m used without, r.free m without out ∙ used, omega (arith, none, without, out, counts m));
-        bytes = λ left right rows m used none.
+        untouched = λ left right rows m used none.
             untouched left right rows m used (omega (arith, none, here left right rows m)) (λ is. absurd (omega (arith, none, first_within right m is, here left right rows m)));
         freed = λ m some none. r.freed m (omega (arith, some, none, counts m)) (omega (arith, none, times_row form after m level new));
         spare = λ m free none. grind (arith, free, none, times_row form after m level new, r.free m, r.freed m);

@@ -4,7 +4,7 @@ use Rattle.std.proofs.Math.Seq.{drop-append-add}
 use Rattle.std.proofs.lemmas.List.{take_at}
 use Rattle.std.specs.List.{All}
 use Rattle.xr_kinds.specs.Form.{Form, IsForm}
-use Rattle.xr_pool.specs.Overlay.{Blocks, block_at, free_count}
+use Rattle.xr_pool.specs.Overlay.{Blocks, block_at, free_count, is_changed}
 use Rattle.xr_block.specs.Rows.{min_records, named_below}
 use Rattle.xr_block.specs.Tree.{records_of, tree_held}
 use Rattle.xr_block.specs.TreeBlock.{Entry, entries_in}
@@ -19,7 +19,7 @@ use Rattle.xr_change.specs.Regroups.{IsSameUnder, Regroups, items_in}
 use Rattle.xr_change.specs.Changes.{HasPathWithRoom}
 use Rattle.xr_change.specs.Sets.{inserted}
 use Rattle.xr_change.specs.Paths.{IsInTree, IsOnPath, child_of, full_on_path, is_full, item_count, max_records, path_index}
-use Rattle.xr_change.specs.Writes.{MarksAtMost, is_changed, unchanged}
+use Rattle.xr_change.specs.Writes.{MarksAtMost, unchanged}
 use Rattle.xr_block.specs.DescentLaws.{node_parted}
 use Rattle.xr_block.specs.Bounds.{IsParted, entry_is_before}
 use Rattle.xr_block.specs.UnderLaws.{min_records_some}
@@ -79,7 +79,7 @@ module _ {X : Type 0} {form : Form X} (laws : IsForm form) {a s : Blocks} {level
       ∙ ap (records_of form s level) (sym (ap (drop (k + 2)) names_now
       ∙ ap (λ (j : ℕ). drop (j + 2) (front ++ (c ∷ m ∷ after))) (sym long_front) ∙ drop-append-add front (c ∷ m ∷ after) 2))) all
 
-  -- each min_records is a child of the node, and neither is full
+  -- each half is a child of the node, and neither is full
   now_at : (i j x : ℕ) → j ≡ k + i → i < 2 → get_or (c ∷ m ∷ []) i 0 ≡ x → child_of form s n j ≡ x
   now_at i j x place within is = child_after form a s level n k (k + 1) (c ∷ []) (c ∷ m ∷ []) split refl (omega (arith, inside)) i j place within ∙ is
 
@@ -182,7 +182,7 @@ room_here form laws a r level n k few is here path room = record {
   taken = omega (arith, full_below form laws r a level n k few is);
 }
 
--- a child that was split, and the min_records that is chosen
+-- a child that was split, and the half that is chosen
 module _ {X : Type 0} {form : Form X} (laws : IsForm form) (r : X) {a s : Blocks} {n k m j : ℕ}
     (first : (d : Entry) → j ≡ k → entry_is_before form (After r) (get_or (entries_in form (block_at s n)) (k + 1) d) ≡ false)
     (second : (d : Entry) → j ≡ k + 1 → entry_is_before form (After r) (get_or (entries_in form (block_at s n)) (k + 1) d) ≡ true) (either : (j ≡ k) ⊎ (j ≡ k + 1)) where

@@ -3,7 +3,7 @@
 use Rattle.std.proofs.Common.{⊎_elim, ◌≡◌, ℕ, ◌+◌, ◌≤◌, false, List, [], ◌∷◌, ◌++◌, refl, ap, ◌∙◌, arith, zero, suc, None, map, sym, subst, length, append-nil, flat_map}
 use Rattle.std.proofs.lemmas.List.Concat.{flat_map-append}
 use Rattle.std.proofs.lemmas.Bool.{cases_eq}
-use Rattle.xr_block.specs.TimesLaws.{times_of, times_other, times_same}
+use Rattle.xr_block.specs.TimesLaws.{times_of, times_other, times_same, times-append}
 use Rattle.xr_kinds.specs.Form.{Form}
 use Rattle.xr_block.specs.FrameLaws.{are_rows_same, flat_map_same, linked_same}
 use Rattle.xr_pool.specs.Overlay.{Blocks, is_free, block_at, pool_size}
@@ -11,15 +11,11 @@ use Rattle.xr_block.specs.Rows.{min_records, AreNamed, AreRowsOf, IsWhole, IsWho
 use Rattle.xr_block.specs.Times.{times}
 use Rattle.xr_block.specs.Tree.{IsUsed, blocks_of, records_of, site_of, tree_held}
 use Rattle.xr_block.specs.TreeBlock.{Entry, Place, entries_in, records_in}
-use Rattle.xr_change.specs.Alters.{Alters, AreRowsIn, HoldsSame, IsSamePool, Takes}
+use Rattle.xr_change.specs.Alters.{Alters, AreRowsIn, HoldsSame, IsSamePool, IsUntouched, Takes}
 use Rattle.xr_change.specs.Paths.{item_count}
 
 pub same_or_other : {P : Type 0} (m n : ℕ) → (m ≡ n → P) → ((m ≡ n → ⊥) → P) → P
 same_or_other m n same other = ⊎_elim same other (cases_eq m n)
-
-pub times_append : (n : ℕ) (xs ys : List ℕ) → times n (xs ++ ys) ≡ times n xs + times n ys
-times_append n [] ys = omega arith
-times_append n (x ∷ xs) ys = omega (arith, times_append n xs ys)
 
 -- a number that doesn't stand in a list of one is another one
 pub not_alone : (m n : ℕ) → times m (n ∷ []) ≡ 0 → m ≡ n → ⊥
@@ -52,13 +48,13 @@ module _ {X : Type 0} (form : Form X) (b : Blocks) where
 
   pub times_below : (n level : ℕ) (row : List ℕ) → times n (blocks_of form b (suc level) row) ≡ times n row + times n (blocks_of form b level (children form b row))
   unfolding rows_from
-  times_below n level row = times_append n row (blocks_of form b level (children form b row))
+  times_below n level row = times-append n row (blocks_of form b level (children form b row))
 
   pub times_blocks_append : (n level : ℕ) (xs ys : List ℕ) → times n (blocks_of form b level (xs ++ ys)) ≡ times n (blocks_of form b level xs) + times n (blocks_of form b level ys)
-  times_blocks_append n zero xs ys = omega (arith, times_leaves n (xs ++ ys), times_leaves n xs, times_leaves n ys, times_append n xs ys)
+  times_blocks_append n zero xs ys = omega (arith, times_leaves n (xs ++ ys), times_leaves n xs, times_leaves n ys, times-append n xs ys)
   times_blocks_append n (suc level) xs ys =
       let split = ap (λ (row : List ℕ). times n (blocks_of form b level row)) (flat_map-append (named_below (tree_held form b)) xs ys) in
-      omega (arith, split, times_blocks_append n level (children form b xs) (children form b ys), times_append, times_below)
+      omega (arith, split, times_blocks_append n level (children form b xs) (children form b ys), times-append, times_below)
 
   -- blocks of a row between others
   pub times_parts : (n level : ℕ) (pre mid post : List ℕ)
@@ -199,6 +195,12 @@ pool_then a b c one two = record {
 pub pool_same : (a : Blocks) → IsSamePool a a
 pool_same a = record { site = refl; pool = refl; kept = refl; kept_free = refl }
 
+pub untouched_then : (a b c : Blocks) (m : ℕ) → IsUntouched a b m → IsUntouched b c m → IsUntouched a c m
+untouched_then a b c m one two = record { bytes = two.bytes ∙ one.bytes; mark = two.mark ∙ one.mark }
+
+pub untouched_same : (a : Blocks) (m : ℕ) → IsUntouched a a m
+untouched_same a m = record { bytes = refl; mark = refl }
+
 pub holds_then : {X : Type 0} (form : Form X) (a b c : Blocks) (m : ℕ) → HoldsSame form a b m → HoldsSame form b c m → HoldsSame form a c m
 holds_then form a b c m one two = record { same_records = two.same_records ∙ one.same_records; same_entries = two.same_entries ∙ one.same_entries }
 
@@ -234,7 +236,7 @@ module _ {X : Type 0} (form : Form X) where
     same = pool_same a;
     rows = λ least pre post low known. known;
     held = λ m used out. (holds_same form a a m refl, used, out);
-    bytes = λ least pre post low known m used out. refl;
+    untouched = λ least pre post low known m used out. untouched_same a m;
     freed = λ m some none. absurd (omega (arith, some, none));
     spare = λ m free out. free;
   }
@@ -246,9 +248,10 @@ module _ {X : Type 0} (form : Form X) where
     held = λ m used out.
         let first = one.held m used out in
         let second = two.held m first.1 first.2 in (holds_then form a b c m first.0 second.0, second.1, second.2);
-    bytes = λ least pre post low known m used out.
+    untouched = λ least pre post low known m used out.
         let still = still_out form a b level (n ∷ []) (n ∷ []) one.held least pre post known m used out in
-        two.bytes least pre post low (one.rows least pre post low known) m still.0 still.1 ∙ one.bytes least pre post low known m used out;
+        untouched_then a b c m (one.untouched least pre post low known m used out)
+        (two.untouched least pre post low (one.rows least pre post low known) m still.0 still.1);
     freed = λ m some none. same_or_other (times m (blocks_of form b level (n ∷ []))) 0
         (λ gone. two.spare m (one.freed m some gone) none)
         (λ between. two.freed m (omega (arith, between)) none);
@@ -262,7 +265,7 @@ module _ {X : Type 0} (form : Form X) where
     same = one.same;
     rows = λ pre post. one.rows (min_records form level) pre post (omega arith);
     held = one.held;
-    bytes = λ pre post. one.bytes (min_records form level) pre post (omega arith);
+    untouched = λ pre post. one.untouched (min_records form level) pre post (omega arith);
     freed = one.freed;
     spare = one.spare;
   }

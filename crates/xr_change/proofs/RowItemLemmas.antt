@@ -4,7 +4,7 @@ use Rattle.std.proofs.lemmas.List.{append-nil, get_or-map, length-append}
 use Rattle.std.specs.List.{flat_map}
 use Rattle.xr_block.specs.TimesLaws.{found_in}
 use Rattle.xr_kinds.specs.Form.{Form, IsForm}
-use Rattle.xr_pool.specs.Overlay.{Blocks, block_at, pool_size, IsBlock}
+use Rattle.xr_pool.specs.Overlay.{Blocks, block_at, pool_size, IsBlock, AreKnown}
 use Rattle.xr_block.specs.Rows.{Held, IsWholeLeaf, min_records, held_in, key_held, key_of_entries, key_of_records}
 use Rattle.xr_block.specs.Times.{times}
 use Rattle.xr_block.specs.Tree.{site_of, tree_held}
@@ -13,7 +13,7 @@ use Rattle.xr_change.proofs.SameItemLemmas.{row_linked, items_same}
 use Rattle.xr_change.proofs.SiblingLemmas.{links_read, whole_moved}
 use Rattle.xr_change.proofs.NodeContextLemmas.{linked_stays}
 use Rattle.xr_change.proofs.RowBlockLemmas.{times_row, holds_same, key_same}
-use Rattle.xr_change.specs.Alters.{AreKnown, AreRowsIn, IsWholeAt}
+use Rattle.xr_change.specs.Alters.{AreRowsIn, IsWholeAt}
 use Rattle.xr_change.specs.Regroups.{place_named, GivesKey, HaveSameItems, IsBlockOf, Item, entry_for, items_in}
 use Rattle.xr_change.specs.Paths.{child_of, item_count, max_records}
 use Rattle.xr_block.specs.EditLaws.{holds_records, leaf_count, leaf_of_whole, leaf_records, node_count, node_entries, node_of_whole}

@@ -10,10 +10,10 @@ use Rattle.xr_block.specs.Rows.{AreLinked, AreNamed, AreRowsOf, Held, min_record
 use Rattle.xr_block.specs.Times.{times}
 use Rattle.xr_block.specs.Tree.{blocks_of, records_of, tree_held}
 use Rattle.xr_block.specs.TreeBlock.{Entry, Place, Site}
-use Rattle.xr_block.specs.TimesLaws.{times_of}
+use Rattle.xr_block.specs.TimesLaws.{times_of, times-append}
 use Rattle.xr_change.specs.Alters.{HoldsSame, IsWholeAt}
 use Rattle.xr_change.specs.Regroups.{HaveSameItems, blocks_below, items_in}
-use Rattle.xr_change.proofs.RowBlockLemmas.{blocks_same, children, holds_same, key_same, records_same, times_append, times_below, times_blocks_append, times_leaves, times_row}
+use Rattle.xr_change.proofs.RowBlockLemmas.{blocks_same, children, holds_same, key_same, records_same, times_below, times_blocks_append, times_leaves, times_row}
 use Rattle.xr_block.specs.PartLaws.{all_left, all_right}
 use Rattle.xr_block.specs.UnderLaws.{same_each}
 
@@ -64,7 +64,7 @@ times_rows form b m (suc level) row = times_below form b m level row
 
 pub times_rest_append : {X : Type 0} (form : Form X) (b : Blocks) (m level : ℕ) (xs ys : List ℕ)
     → times m (blocks_below form b level (xs ++ ys)) ≡ times m (blocks_below form b level xs) + times m (blocks_below form b level ys)
-times_rest_append {X = X} form b m level xs ys = omega (arith, times_rows {X = X}, times_blocks_append form b m level xs ys, times_append)
+times_rest_append {X = X} form b m level xs ys = omega (arith, times_rows {X = X}, times_blocks_append form b m level xs ys, times-append)
 
 -- the first row of some is linked
 pub row_linked : {X : Type 0} (form : Form X) (site : Site) (at : ℕ → List ℕ) (held : Held X) (least level : ℕ) (row : List ℕ)

@@ -9,13 +9,11 @@ use Rattle.std.proofs.lemmas.List.Folds.{list_any-append}
 use Rattle.std.specs.List.{All}
 use Rattle.xr_base.specs.declared.geometry.TheConstants.{BLOCK_BYTES}
 use Rattle.xr_kinds.specs.Form.{Form}
-use Rattle.xr_pool.specs.Overlay.{AreBlocks, AreWhole, Blocks, IsBlock, block_at, pool_size, with_block}
+use Rattle.xr_pool.specs.Overlay.{AreKnown, Blocks, IsBlock, block_at, is_changed, pool_size, with_block}
 use Rattle.xr_change.proofs.ReadLemmas.{reads_same, reads_sealed}
 use Rattle.xr_change.proofs.RowBlockLemmas.{same_or_other}
 use Rattle.xr_change.proofs.WriteLemmas.{marks_stay}
-use Rattle.xr_change.specs.Alters.{AreKnown}
 use Rattle.xr_change.specs.Draft.{AreEdited, ReadsAs, all_sealed, is_edited, sealed_from}
-use Rattle.xr_change.specs.Writes.{is_changed}
 use Rattle.xr_block.specs.Edits.{sealed}
 use Rattle.xr_block.specs.SealLaws.{length-sealed, sealed_again, sealed_bytes}
 
@@ -79,9 +77,6 @@ module _ {X : Type 0} (form : Form X) where
         let had : seal_if form (next n) w ≡ get_or (sealed_from form test 0 xs) n d =
         sealed_stays (next n) w again ∙ is ∙ sym (sealed_at test xs n d within ∙ ap (λ (b : Bool). seal_if form b (get_or xs n d)) here) in
         sealed_with ∙ ap (set (sealed_from form test 0 xs) n) had ∙ set-get_or (sealed_from form test 0 xs) n d
-
-pub overlay_known : (b : Blocks) → AreBlocks b → AreWhole b.current → length b.uuid ≡ 16 → AreKnown b
-overlay_known b all whole identified = record { all = all; whole = whole; identified = identified; small = omega (arith, all.within_image) }
 
 -- which are edited
 pub edited_more : (es : List ℕ) (n : ℕ) → is_edited (es ++ n ∷ []) n ≡ true

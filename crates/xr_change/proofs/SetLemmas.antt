@@ -1,11 +1,8 @@
 -- Records that ascend, with one more, one less, or another in the place of one, by the place where it stands.
-use Rattle.std.proofs.Common.{◌≡◌, ℕ, zero, suc, ◌+◌, ◌<◌, ◌≤◌, Bool, true, false, if◌then◌else◌, List, [], ◌∷◌, ◌++◌, length, get_or, refl, sym, ap, ◌∙◌, arith}
-use Rattle.std.proofs.lemmas.Bool.{cond_both}
+use Rattle.std.proofs.Common.{◌≡◌, ℕ, zero, suc, ◌+◌, ◌<◌, Bool, true, false, if◌then◌else◌, List, [], ◌∷◌, ◌++◌, length, get_or, refl, sym, ap, ◌∙◌, arith}
 use Rattle.std.proofs.lemmas.Cmp.{tied_itself}
 use Rattle.std.proofs.lemmas.List.{get_or-append-add, get_or_append_left, get_or_default, length-append}
-use Rattle.std.proofs.lemmas.List.Elements.{All-cons, All-contains, All-tail, Contains-append_right}
-use Rattle.std.proofs.lemmas.List.Edits.{length-remove}
-use Rattle.std.proofs.lemmas.List.Quantifiers.{all_pairs_remove}
+use Rattle.std.proofs.lemmas.List.Elements.{All-contains}
 use Rattle.std.specs.Cmp.{IsTotalOrder}
 use Rattle.std.specs.List.{All, AllPairs, Contains, insert, remove, slice_set}
 use Rattle.std.specs.Ordering.{is_eq, is_lt, ordering_reverse}
@@ -13,6 +10,7 @@ use Rattle.std.specs.declared.cmp.Ordering.{Ordering}
 use Rattle.std.specs.declared.cmp.Ordering.TheVariants.{Less, Equal}
 use Rattle.xr_kinds.specs.Form.{Form, IsForm}
 use Rattle.xr_block.specs.Tree.{AreRecords}
+use Rattle.xr_change.specs.SetLaws.{inserted_has, replaced_has}
 use Rattle.xr_change.specs.Sets.{inserted, removed, replaced}
 use Rattle.xr_block.specs.Bounds.{IsPlaceOf}
 
@@ -133,52 +131,12 @@ front_below order front ys r pairs (j, within, is) k d inside =
     let both = pairs k (length front + j) d (omega (arith, inside)) (omega (arith, within, length-append front ys)) in
     cc (both, is, get_or-append-add front ys j d, get_or_default ys j d r within, get_or_append_left front ys d k inside)
 
-module _ {X : Type 0} (order : X → X → Ordering) (r : X) where
-  -- what holds of a list and of it without one record
-  removed_is : (P : List X → Type 0) (xs : List X) → P xs → ((k : ℕ) → k < length xs → P (remove xs k)) → P (removed order r xs)
-  unfolding removed
-  removed_is P [] same less = same
-  removed_is P (x ∷ xs) same less =
-      cond_both (is_eq (order x r)) xs (x ∷ removed order r xs) P (λ is. less 0 (omega arith))
-      (λ is. removed_is (λ (ys : List X). P (x ∷ ys)) xs same (λ k within. less (suc k) (omega (arith, within))))
-
-  all_removed : (P : X → Type 0) (xs : List X) → All P xs → All P (removed order r xs)
-  unfolding removed
-  all_removed P [] all = all
-  all_removed P (x ∷ xs) all =
-      let rest = All-tail P x xs all in
-      cond_both (is_eq (order x r)) xs (x ∷ removed order r xs) (All P) (λ is. rest) (λ is. All-cons P x (removed order r xs) (all 0 x (omega arith)) (all_removed P xs rest))
-
-  -- a record that stands in the place of another is one of the list
-  replaced_holds : IsTotalOrder order → (new : X) (xs : List X) → Contains xs r → Contains (replaced order r new xs) new
-  unfolding replaced
-  replaced_holds total new [] found = absurd (omega (arith, found.1))
-  replaced_holds total new (x ∷ xs) (zero, within, is) =
-      let same : is_eq (order x r) ≡ true = ap (λ (y : X). is_eq (order y r)) is ∙ ap is_eq (tied_itself total r) in
-      rw (same) (0, omega arith, refl)
-  replaced_holds total new (x ∷ xs) (suc k, within, is) =
-      cond_both (is_eq (order x r)) (new ∷ xs) (x ∷ replaced order r new xs) (λ (ys : List X). Contains ys new) (λ same. (0, omega arith, refl))
-      (λ other. Contains-append_right (x ∷ []) (replaced order r new xs) new (replaced_holds total new xs (k, omega (arith, within), is)))
-
-pub removed_rules : {X : Type 0} (form : Form X) (r : X) (xs : List X) → AreRecords form xs → AreRecords form (removed form.order r xs)
-removed_rules form r xs rules = record {
-  valid = all_removed form.order r (λ x. form.is_valid x ≡ true) xs rules.valid;
-  ascend = removed_is form.order r (AllPairs (λ x y. form.order x y ≡ Less)) xs rules.ascend (λ k within. all_pairs_remove (λ x y. form.order x y ≡ Less) xs k within rules.ascend);
-  agree = removed_is form.order r (AllPairs (λ x y. form.agree x y ≡ true)) xs rules.agree (λ k within. all_pairs_remove (λ x y. form.agree x y ≡ true) xs k within rules.agree);
-  few = removed_is form.order r (λ ys. length ys ≤ form.most) xs rules.few (λ k within. omega (arith, length-remove xs k within, rules.few));
-}
+-- a record that stands in the list afterwards is valid by the rules
+pub inserted_valid : {X : Type 0} (form : Form X) (r : X) (xs : List X) → AreRecords form (inserted form.order r xs) → form.is_valid r ≡ true
+inserted_valid {X} form r xs rules =
+    All-contains (λ (x : X). form.is_valid x ≡ true) (inserted form.order r xs) r rules.valid (inserted_has form.order r xs)
 
 pub replaced_valid : {X : Type 0} (form : Form X) → IsForm form → (old new : X) (xs : List X) → Contains xs old → AreRecords form (replaced form.order old new xs)
     → form.is_valid new ≡ true
 replaced_valid form laws old new xs found rules =
-    All-contains (λ x. form.is_valid x ≡ true) (replaced form.order old new xs) new rules.valid (replaced_holds form.order old laws.total new xs found)
-
-picked : {X : Type 0} (P : X → Type 0) (test : Bool) (r x : X) (more xs : List X) → (All P more → P r) → All P (if test then x ∷ more else r ∷ x ∷ xs) → P r
-picked P true r x more xs within all = within (λ k d inside. all (suc k) d (omega (arith, inside)))
-picked P false r x more xs within all = all 0 r (omega arith)
-
--- what holds of all records holds of the new one
-pub inserted_has : {X : Type 0} (P : X → Type 0) (order : X → X → Ordering) (r : X) (xs : List X) → All P (inserted order r xs) → P r
-unfolding inserted
-inserted_has P order r [] all = all 0 r (omega arith)
-inserted_has P order r (x ∷ xs) all = picked P (is_lt (order x r)) r x (inserted order r xs) xs (inserted_has P order r xs) all
+    All-contains (λ x. form.is_valid x ≡ true) (replaced form.order old new xs) new rules.valid (replaced_has form.order laws.total old new xs found)

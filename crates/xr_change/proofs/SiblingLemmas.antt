@@ -7,11 +7,11 @@ use Rattle.xr_base.specs.declared.geometry.TheConstants.{BLOCK_BYTES}
 use Rattle.xr_kinds.specs.BigEndianLaws.{dropped_bytes}
 use Rattle.xr_block.specs.BlockLaws.{fields_fill, length-items}
 use Rattle.xr_kinds.specs.Form.{Form, IsForm, header_size, pointer_size}
-use Rattle.xr_pool.specs.Overlay.{Blocks, block_at, pool_size}
+use Rattle.xr_pool.specs.Overlay.{Blocks, block_at, pool_size, AreKnown}
 use Rattle.xr_block.specs.Rows.{Held}
 use Rattle.xr_block.specs.Tree.{site_of, tree_held}
 use Rattle.xr_block.specs.TreeBlock.{Place, Site, count_in, entries_in, header, leaf_bytes, sibling, node_bytes, node_items, records_in, tree_block}
-use Rattle.xr_change.specs.Alters.{AreKnown, HoldsSame, IsWholeAt}
+use Rattle.xr_change.specs.Alters.{HoldsSame, IsWholeAt}
 use Rattle.xr_block.specs.CheckLaws.{IsRead, Names, block_read, sibling_again}
 use Rattle.xr_block.specs.ItemCheckLaws.{node_read}
 use Rattle.xr_block.specs.Checks.{left_in, right_in}

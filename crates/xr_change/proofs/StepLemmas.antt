@@ -3,7 +3,7 @@ use Rattle.std.proofs.Common.{◌≡◌, ℕ, suc, ◌<◌, ◌≤◌, List, ◌
 use Rattle.std.proofs.Math.Seq.{drop-cons, split_at}
 use Rattle.std.proofs.lemmas.List.{length-append, length-drop, length-take-le}
 use Rattle.xr_kinds.specs.Form.{Form, IsForm}
-use Rattle.xr_pool.specs.Overlay.{Blocks, block_at, pool_size}
+use Rattle.xr_pool.specs.Overlay.{AreKnown, Blocks, block_at, is_changed, pool_size}
 use Rattle.xr_block.specs.Rows.{min_records, key_held, named_below}
 use Rattle.xr_block.specs.Tree.{site_of, records_of, tree_held}
 use Rattle.xr_block.specs.TreeBlock.{Entry, Place, Site, count_in, entries_in}
@@ -15,12 +15,12 @@ use Rattle.xr_change.proofs.NodeChangeLemmas.{alters_above, node_names, node_sta
 use Rattle.xr_change.proofs.ParentLemmas.{kth_node, kth_of}
 use Rattle.xr_change.proofs.RowBlockLemmas.{alters_takes, times_row, alters_then, children}
 use Rattle.xr_change.proofs.WriteLemmas.{set_around, same_count, unchanged_less}
-use Rattle.xr_change.specs.Alters.{AreKnown, AreRowsIn, Takes}
+use Rattle.xr_change.specs.Alters.{AreRowsIn, Takes}
 use Rattle.xr_change.specs.Changes.{Changes, HasPathWithRoom, HasPathWithSurplus, HasPath, Inserts, MayUpdateKey, Removes, Replaces}
 use Rattle.xr_change.specs.Regroups.{HoldsNow, GivesKey, NamesChildren, entry_for, items_in, place_named}
 use Rattle.xr_change.specs.Sets.{inserted, removed, replaced}
 use Rattle.xr_change.specs.Paths.{IsInTree, IsChildAt, child_of, full_on_path, item_count}
-use Rattle.xr_change.specs.Writes.{WritesOnly, MarksAtMost, is_changed, unchanged, unmarked}
+use Rattle.xr_change.specs.Writes.{WritesOnly, MarksAtMost, unchanged, unmarked}
 use Rattle.xr_block.specs.EditLaws.{node_count, node_entries, node_moved}
 use Rattle.xr_block.specs.Edits.{IsNodeOf, with_key}
 use Rattle.xr_block.specs.DescentLaws.{node_few}

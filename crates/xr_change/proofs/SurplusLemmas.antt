@@ -1,4 +1,4 @@
--- The child on the path of a record that goes has an item to spare: it has it already, or it was given some of a neighbour's, or
+-- The child on the path of a record that goes has an item more than it needs: it has it already, or it was given some of a sibling's, or
 -- all of them.
 use Rattle.std.proofs.Common.{◌≡◌, ℕ, zero, suc, ◌+◌, ◌<◌, ◌≤◌, true, false, List, [], ◌∷◌, ◌++◌, length, take, drop, map, get_or, refl, sym, ap, ◌∙◌, subst, arith}
 use Rattle.std.proofs.Math.Seq.{drop-append_seam, take-append_seam}
@@ -7,7 +7,7 @@ use Rattle.std.proofs.lemmas.List.Elements.{Contains-append_left, Contains-appen
 use Rattle.std.specs.List.{Contains}
 use Rattle.xr_block.specs.TimesLaws.{times_same}
 use Rattle.xr_kinds.specs.Form.{Form, IsForm}
-use Rattle.xr_pool.specs.Overlay.{Blocks, block_at, free_below, free_count, is_free, pool_size}
+use Rattle.xr_pool.specs.Overlay.{Blocks, block_at, free_below, free_count, is_changed, is_free, pool_size}
 use Rattle.xr_block.specs.Rows.{min_records, named_below}
 use Rattle.xr_block.specs.Times.{times}
 use Rattle.xr_block.specs.Tree.{records_of, tree_held}
@@ -23,7 +23,7 @@ use Rattle.xr_change.specs.Regroups.{Item, Regroups, blocks_below, items_in}
 use Rattle.xr_change.specs.Changes.{HasPathWithSurplus}
 use Rattle.xr_change.specs.Sets.{removed}
 use Rattle.xr_change.specs.Paths.{IsInTree, child_of, item_count}
-use Rattle.xr_change.specs.Writes.{MarksAtMost, is_changed, unchanged}
+use Rattle.xr_change.specs.Writes.{MarksAtMost, unchanged}
 use Rattle.xr_block.specs.UnderLaws.{min_records_some}
 
 -- two parts of one list, in two ways: the longer first part begins with the other, and the longer second part ends with it
@@ -61,7 +61,7 @@ kept_under form a s (suc level) x y front after is same r there =
     ∙ records_append form s level (map child front) _
     ∙ ap (λ (rest : List _). rows (map child front) ++ rest) (records_append form s level _ (map child after) ∙ rw held refl)) there
 
--- two neighbouring children of a node that were rearranged
+-- two sibling children of a node that were rearranged
 module _ {X : Type 0} {form : Form X} (laws : IsForm form) {a : Blocks} {level n : ℕ} (here : IsInTree form a (suc level) n) (j : ℕ) where
   abbrev c : ℕ
   c = child_of form a n j
@@ -91,7 +91,7 @@ module _ {X : Type 0} {form : Form X} (laws : IsForm form) {a : Blocks} {level n
         let used = for_two (λ (x : ℕ). is_free a x ≡ false) c d (child_used j (omega (arith, inside))) (child_used (j + 1) inside) m in
         grind (arith, free, used, sub m, made.spare m)
 
-    -- what stood under one of them stands under the i-th now, which has an item to spare
+    -- what stood under one of them stands under the i-th now, which has an item more than it needs
     spare_made : ((x : ℕ) → times x (c ∷ news) ≤ times x (c ∷ d ∷ [])) → (more : ℕ) → more ≤ 3 → MarksAtMost a s (unchanged a n + more) → is_changed s n ≡ true
         → (i k y : ℕ) → k ≡ j + i → i < length (c ∷ news) → get_or (c ∷ news) i 0 ≡ y → is_changed s y ≡ true → min_records form level + 1 ≤ item_count form s level y
         → (x : ℕ) (front after : List (Item X level)) → 1 ≤ times x (c ∷ d ∷ []) → items_in form level (block_at s y) ≡ front ++ (items_in form level (block_at a x) ++ after)
@@ -142,10 +142,10 @@ module _ {X : Type 0} {form : Form X} (laws : IsForm form) {a : Blocks} {level n
         spare d (has a c) [] (omega (arith, times_same d [])) (merged ∙ ap (λ (rest : List (Item X level)). has a c ++ rest) (sym (append-nil (has a d)))) r
         (subst (λ (i : ℕ). Contains (records_of form a level (child_of form a n i ∷ [])) r) is there))
 
-  -- both rebalance their items anew
+  -- both share their items anew
   module _ {s : Blocks} (rebalance : Regroups form a s level n j (j + 2) (c ∷ d ∷ []) (c ∷ d ∷ [])) (marks : MarksAtMost a s (unchanged a n + 2))
       (changed : (is_changed s n ≡ true) × (is_changed s c ≡ true) × (is_changed s d ≡ true)) (inside : j + 1 < length es) where
-    -- the k-th child had no item to spare
+    -- the k-th child had no item more than it needs
     abbrev Fills : ℕ → Type 0
     Fills k = item_count form a level (child_of form a n k) ≤ min_records form level
         → (r : X) → Contains (records_of form a level (child_of form a n k ∷ [])) r → HasPathWithSurplus form a s level n r k
@@ -170,7 +170,7 @@ module _ {X : Type 0} {form : Form X} (laws : IsForm form) {a : Blocks} {level n
         (second_longer (has s c) (has s d) (has a c) (has a d) shared (omega (arith, low, many, shared_count, items_counted form a level c, items_counted form s level c))
         ∙ ap (λ (end : List (Item X level)). rest ++ end) (sym (append-nil (has a d)))))
 
--- a child that has an item to spare already
+-- a child that has an item more than it needs already
 pub surplus_here : {X : Type 0} (form : Form X) (laws : IsForm form) (a : Blocks) (level n k : ℕ) (r : X) (here : IsInTree form a (suc level) n)
     (within : k < length (entries_in form (block_at a n)))
     → Contains (records_of form a level (child_of form a n k ∷ [])) r → min_records form level + 1 ≤ item_count form a level (child_of form a n k) → HasPathWithSurplus form a a level n r k

@@ -1,6 +1,7 @@
 -- A whole tree by its rows, what a change under its root leaves of it and of the pool, and a tree that gets a level more or one less.
-use Rattle.std.proofs.Common.{◌≡◌, ℕ, zero, suc, ◌+◌, ◌^◌, ◌-◌, ◌*◌, ◌<◌, ◌≤◌, true, false, None, Some, List, [], ◌∷◌, ◌++◌, length, get_or, map, refl, sym, ap, ◌∙◌, subst, arith, slice_index_or}
+use Rattle.std.proofs.Common.{◌≡◌, ℕ, zero, suc, ◌+◌, ◌^◌, ◌-◌, ◌*◌, ◌<◌, ◌≤◌, true, false, None, Some, List, [], ◌∷◌, ◌++◌, length, get_or, map, refl, sym, ap, ◌∙◌, subst, inl, inr, ⊎_elim, arith, slice_index_or}
 use Rattle.std.proofs.lemmas.List.{length-map}
+use Rattle.std.proofs.lemmas.Bool.{cases_Bool}
 use Rattle.std.proofs.lemmas.Bool.Decides.{nat_tests}
 use Rattle.std.specs.List.{Contains}
 use Rattle.xr_block.specs.TimesLaws.{times_other, times_same, all_of, distinct_of, each_of, found_in, once_of, times_of}
@@ -9,7 +10,7 @@ use Rattle.xr_block.specs.BlockLaws.{AreEntries}
 use Rattle.xr_kinds.specs.Form.{Form, IsForm, key_size, pointer_size}
 use Rattle.xr_block.specs.Frame.{ChangesOnly}
 use Rattle.xr_block.specs.FrameLaws.{then_changes}
-use Rattle.xr_pool.specs.Overlay.{AreBlocks, Blocks, block_at, is_free, pool_size, with_given, with_taken}
+use Rattle.xr_pool.specs.Overlay.{AreBlocks, Blocks, block_at, is_free, pool_size, with_given, with_taken, AreKnown}
 use Rattle.xr_block.specs.Rows.{AreLinked, AreNamed, AreRowsOf, min_records, named_below}
 use Rattle.xr_block.specs.Times.{times}
 use Rattle.xr_block.specs.Tree.{AreRecords, IsTreeIn, IsUsed, blocks_of, least_of_root, records_of, site_of, tree_held, tree_records, tree_blocks}
@@ -20,10 +21,10 @@ use Rattle.xr_change.proofs.BlockInTreeLemmas.{one_more, leaf_alone}
 use Rattle.xr_change.proofs.SameItemLemmas.{item_same}
 use Rattle.xr_change.proofs.RowItemLemmas.{min_records_is, items_counted}
 use Rattle.xr_change.proofs.SiblingLemmas.{names_small}
-use Rattle.xr_change.proofs.RowBlockLemmas.{HoldSame, below, blocks_same, children, holds_same, key_same, least_alone, least_less, not_alone, records_below, records_same, pool_same, rows_stay, times_below, times_row, same_or_other}
-use Rattle.xr_change.proofs.SetLemmas.{removed_rules}
+use Rattle.xr_change.proofs.RowBlockLemmas.{HoldSame, below, blocks_same, children, holds_same, key_same, least_alone, least_less, not_alone, records_below, records_same, pool_same, rows_stay, times_below, times_row, same_or_other, untouched_same}
+use Rattle.xr_change.specs.SetLaws.{removed_rules}
 use Rattle.xr_change.proofs.WriteLemmas.{more_free, taken_count, unmarked_few}
-use Rattle.xr_change.specs.Alters.{AreKnown, AreRowsIn, HoldsSame, Alters, IsSamePool}
+use Rattle.xr_change.specs.Alters.{AreRowsIn, HoldsSame, Alters, IsSamePool, IsUntouched}
 use Rattle.xr_change.specs.Changes.{Changes}
 use Rattle.xr_change.specs.Roots.{ShrinksRoot, GrowsRoot}
 use Rattle.xr_change.specs.Regroups.{entry_for}
@@ -79,7 +80,7 @@ module _ {X : Type 0} (form : Form X) where
 
   -- what a change leaves of the pool, by how often blocks stand in the tree
   pub frame_of : (a b : Blocks) → IsSamePool a b → (old new : List ℕ)
-      → ((m : ℕ) → is_free a m ≡ false → times m old ≡ 0 → (block_at b m ≡ block_at a m) × (is_free b m ≡ false) × (times m new ≡ 0))
+      → ((m : ℕ) → is_free a m ≡ false → times m old ≡ 0 → IsUntouched a b m × (is_free b m ≡ false) × (times m new ≡ 0))
       → ((m : ℕ) → 1 ≤ times m new → is_free b m ≡ false) → ((m : ℕ) → 1 ≤ times m old → times m new ≡ 0 → is_free b m ≡ true)
       → ((m : ℕ) → is_free a m ≡ true → times m new ≡ 0 → is_free b m ≡ true) → ChangesOnly a old b new
   frame_of a b same old new others taken freed spare = record {
@@ -88,10 +89,16 @@ module _ {X : Type 0} (form : Form X) where
     kept = same.kept;
     kept_free = same.kept_free;
     others = λ n used without.
-        let beside = others n used (none_of n old without) in (beside.0, beside.1, λ found. absurd (omega (arith, beside.2, times_of new n found)));
+        let beside = others n used (none_of n old without) in (beside.0.bytes, beside.1, λ found. absurd (omega (arith, beside.2, times_of new n found)));
     taken = λ n within. taken n (times_of new n within);
     freed = λ n within without. freed n (times_of old n within) (none_of n new without);
     spare = λ n free without. spare n free (none_of n new without);
+    marked = λ n is. same_or_other (times n old) 0
+        (λ out. ⊎_elim
+        (λ (free : is_free a n ≡ true). inr (inr free))
+        (λ (used : is_free a n ≡ false). let beside = others n used out in inl (sym beside.0.mark ∙ is))
+        (cases_Bool (is_free a n)))
+        (λ some. inr (inl (found_in old n (omega (arith, some)))));
   }
 
   -- a change under the root of a tree in its row, which leaves it a tree where its records keep the rules and its root has children enough
@@ -112,7 +119,7 @@ module _ {X : Type 0} (form : Form X) where
     pub changed_frame : ChangesOnly a (tree_blocks form a n level) b (tree_blocks form b n level)
     changed_frame =
         frame_of a b one.same (tree_blocks form a n level) (tree_blocks form b n level)
-        (λ m used out. let held = one.held m used out in (one.bytes least [] [] (omega arith) rows m used out, held.1, held.2))
+        (λ m used out. let held = one.held m used out in (one.untouched least [] [] (omega arith) rows m used out, held.1, held.2))
         (λ m some. (changed_rows.owned m some).taken) one.freed one.spare
 
   -- a tree's own root: it stands in its row, and has a child or two where it is a node
@@ -184,14 +191,14 @@ module _ {X : Type 0} (form : Form X) (laws : IsForm form) (a : Blocks) (level r
   apart m used same = let lie : true ≡ false = sym was ∙ subst (λ (k : ℕ). is_free a k ≡ false) same used in absurd cc
 
   -- the blocks below the root are no other ones where p alone is taken and written
-  beside : (b : Blocks) → IsSamePool a b → ((m : ℕ) → (m ≡ p → ⊥) → (block_at b m ≡ block_at a m) × (is_free b m ≡ is_free a m))
+  beside : (b : Blocks) → IsSamePool a b → ((m : ℕ) → (m ≡ p → ⊥) → IsUntouched a b m × (is_free b m ≡ is_free a m))
       → AreRowsIn form b (min_records form level) level (root ∷ [])
   beside b pool same =
       rows_stay form a b (min_records form level) level (root ∷ []) known pool
-      (λ m some. let used = (known.owned m some).taken in let still = same m (apart m used) in (still.0, still.1 ∙ used))
+      (λ m some. let used = (known.owned m some).taken in let still = same m (apart m used) in (still.0.bytes, still.1 ∙ used))
 
   pub rows_taken : AreRowsIn form (with_taken a p) (min_records form level) level (root ∷ [])
-  rows_taken = beside (with_taken a p) (record { site = refl; pool = refl; kept = refl; kept_free = refl }) (λ m other. (refl, bit_cleared_other a.free p m room other))
+  rows_taken = beside (with_taken a p) (record { site = refl; pool = refl; kept = refl; kept_free = refl }) (λ m other. (record { bytes = refl; mark = refl }, bit_cleared_other a.free p m room other))
 
   out : times p old ≡ 0
   out = none_of p old (λ there. apart p (known.owned p (times_of old p there)).taken refl)
@@ -204,14 +211,16 @@ module _ {X : Type 0} (form : Form X) (laws : IsForm form) (a : Blocks) (level r
     pool : IsSamePool a b
     pool = record { site = writes.same.site; pool = writes.same.pool; kept = writes.same.kept; kept_free = writes.same.kept_free }
 
-    others : (m : ℕ) → (m ≡ p → ⊥) → (block_at b m ≡ block_at a m) × (is_free b m ≡ is_free a m)
-    others m other = (writes.others m (times_other m p [] (λ same. other (sym same))), rw writes.free (bit_cleared_other a.free p m room other))
+    others : (m : ℕ) → (m ≡ p → ⊥) → IsUntouched a b m × (is_free b m ≡ is_free a m)
+    others m other =
+        let still = writes.others m (times_other m p [] (λ same. other (sym same))) in
+        (record { bytes = still.bytes; mark = still.mark }, rw writes.free (bit_cleared_other a.free p m room other))
 
     holds : entries_in form (block_at b p) ≡ entry_for form a level root ∷ []
     holds = node_entries form laws (site_of a) _ (block_at b p) (entry_for form a level root ∷ []) node
 
     same : HoldSame form a b old
-    same m some = holds_same form a b m (others m (apart m (known.owned m some).taken)).0
+    same m some = let here = others m (apart m (known.owned m some).taken) in holds_same form a b m here.0.bytes
 
     same_root : HoldsSame form a b root
     same_root = same root (omega (arith, times_row form a root level (root ∷ []), times_same root []))
@@ -288,7 +297,7 @@ module _ {X : Type 0} (form : Form X) (laws : IsForm form) (a : Blocks) where
     tree = tree_of_rows form a n level (least_alone form a 0 (least_of_root level) level n known many) rules;
     records = refl;
     frame = frame_of form a a (pool_same a) (blocks_of form a level (n ∷ [])) (blocks_of form a level (n ∷ []))
-        (λ m used none. (refl, used, none)) (λ m there. (known.owned m there).taken) (λ m there none. absurd (omega (arith, there, none))) (λ m free none. free);
+        (λ m used none. (untouched_same a m, used, none)) (λ m there. (known.owned m there).taken) (λ m there none. absurd (omega (arith, there, none))) (λ m free none. free);
     free = omega arith;
     changed = refl;
   }
@@ -338,7 +347,7 @@ module _ {X : Type 0} (form : Form X) (laws : IsForm form) (a : Blocks) where
               (subst (AreRecords form) records rules);
           records = sym records;
           frame = frame_of form a after kept (blocks_of form a (suc level) (n ∷ [])) (blocks_of form a level (c ∷ []))
-              (λ m used out. (refl, still m (not_alone m n (omega (arith, out, times_low m))) ∙ used, omega (arith, out, times_low m)))
+              (λ m used out. (record { bytes = refl; mark = refl }, still m (not_alone m n (omega (arith, out, times_low m))) ∙ used, omega (arith, out, times_low m)))
               (λ m there. (lower_rows.owned m there).taken)
               (λ m there none. same_or_other n m (λ is. rw (← is) here) (λ other. absurd (omega (arith, there, none, times_low m, times_other m n [] other))))
               (λ m free none. still m (λ is. let lie : true ≡ false = sym free ∙ ap (is_free a) is ∙ own.taken in absurd cc) ∙ free);

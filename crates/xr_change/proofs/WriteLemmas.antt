@@ -7,15 +7,15 @@ use Rattle.std.proofs.lemmas.Bool.{and_parts, ltb-true}
 use Rattle.std.proofs.lemmas.List.{get_or-set_other, get_or-set_same, length-set}
 use Rattle.std.specs.Option.{option_to_list}
 use Rattle.std.specs.Prelude.{nat_lt}
-use Rattle.xr_block.specs.TimesLaws.{times_other, times_same}
+use Rattle.xr_block.specs.TimesLaws.{times_other, times_same, times-append}
 use Rattle.xr_pool.specs.BitLaws.{bit_cleared, bit_cleared_other}
 use Rattle.xr_pool.specs.Bits.{has_bit}
 use Rattle.xr_pool.specs.Marks.{marked}
-use Rattle.xr_pool.specs.Overlay.{AreBlocks, Blocks, block_at, free_below, free_count, is_free, pool_size, with_taken, with_block}
+use Rattle.xr_pool.specs.Overlay.{AreBlocks, Blocks, block_at, free_below, free_count, is_changed, is_free, pool_size, with_taken, with_block}
 use Rattle.xr_pool.specs.OverlayLaws.{block_beside}
 use Rattle.xr_block.specs.Times.{times}
-use Rattle.xr_change.proofs.RowBlockLemmas.{not_alone, pool_then, times_append, same_or_other}
-use Rattle.xr_change.specs.Writes.{Writes, WritesOnly, is_changed, unchanged, unmarked}
+use Rattle.xr_change.proofs.RowBlockLemmas.{not_alone, pool_then, same_or_other, untouched_then}
+use Rattle.xr_change.specs.Writes.{Writes, WritesOnly, unchanged, unmarked}
 
 pub set_around : {X : Type 0} (xs : List X) (k : ℕ) (x : X) → k < length xs → set xs k x ≡ take k xs ++ x ∷ drop (suc k) xs
 set_around [] k x within = absurd (omega (arith, within))
@@ -116,7 +116,9 @@ marks_stay marks n m is =
 pub block_writes : (a : Blocks) (n : ℕ) (bytes : List ℕ) → AreBlocks a → n < pool_size a → Writes a (with_block a n bytes) (n ∷ [])
 block_writes a n bytes all within = record {
   same = record { site = refl; pool = length-set a.current n bytes; kept = refl; kept_free = refl };
-  others = λ m none. block_beside a n m bytes (not_alone m n none);
+  others = λ m none.
+      let other = not_alone m n none in
+      record { bytes = block_beside a n m bytes other; mark = get_or-set_other a.changed n m true false other };
   free = refl;
   changed = for_one (λ (i : ℕ). get_or (set a.changed n true) i false ≡ true) n (get_or-set_same a.changed n true false (omega (arith, within, all.marks)));
   marks = record { stay = λ m is. marks_stay a.changed n m is; few = omega (arith, marked_by 0 n a.changed) };
@@ -146,9 +148,10 @@ module _ (a b c : Blocks) (ms : List ℕ) (one : Writes a b ms) where
   pub writes_then : (ns : List ℕ) → Writes b c ns → Writes a c (ms ++ ns)
   writes_then ns two = record {
     same = pool_then a b c one.same two.same;
-    others = λ m none. two.others m (omega (arith, none, times_append m ms ns)) ∙ one.others m (omega (arith, none, times_append m ms ns));
+    others = λ m none.
+        untouched_then a b c m (one.others m (omega (arith, none, times-append m ms ns))) (two.others m (omega (arith, none, times-append m ms ns)));
     free = two.free ∙ one.free;
-    changed = λ m some. grind (arith, some, times_append m ms ns, two.changed m, one.changed m, two.marks.stay m);
+    changed = λ m some. grind (arith, some, times-append m ms ns, two.changed m, one.changed m, two.marks.stay m);
     marks = record {
       stay = λ m is. two.marks.stay m (one.marks.stay m is);
       few = omega (arith, one.marks.few, two.marks.few, unmarked_less a b one.marks.stay ns, unmarked_append a ms ns);
@@ -161,7 +164,7 @@ module _ (a b c : Blocks) (ms : List ℕ) (one : Writes a b ms) where
       let known : unchanged b n ≡ 0 = ap (λ (test : Bool). if test then 0 else 1) (one.changed n some) in
       record {
         same = pool_then a b c one.same two.same;
-        others = λ m none. two.others m (grind (arith, nat_tests, none, some)) ∙ one.others m none;
+        others = λ m none. untouched_then a b c m (one.others m none) (two.others m (grind (arith, nat_tests, none, some)));
         free = two.free ∙ one.free;
         changed = λ m here. two.marks.stay m (one.changed m here);
         marks = record { stay = λ m is. two.marks.stay m (one.marks.stay m is); few = omega (arith, one.marks.few, two.marks.few, known) };
@@ -173,7 +176,11 @@ next_few (Some q) = omega arith
 
 -- one block alone
 pub one_beside : (a b : Blocks) (n : ℕ) → Writes a b (n ∷ []) → (m : ℕ) → (m ≡ n → ⊥) → block_at b m ≡ block_at a m
-one_beside a b n writes m other = writes.others m (times_other m n [] (λ same. other (sym same)))
+one_beside a b n writes m other = (writes.others m (times_other m n [] (λ same. other (sym same)))).bytes
 
 pub written_only : (a b : Blocks) (n : ℕ) → Writes a b (n ∷ []) → WritesOnly a b n
-written_only a b n writes = record { same = writes.same; others = one_beside a b n writes; free = λ m. ap (λ (bits : List ℕ). has_bit bits m) writes.free }
+written_only a b n writes = record {
+  same = writes.same;
+  others = λ m other. writes.others m (times_other m n [] (λ same. other (sym same)));
+  free = λ m. ap (λ (bits : List ℕ). has_bit bits m) writes.free;
+}

@@ -1,19 +1,12 @@
+-- Of no public contract.
 -- A change of what stands under one block of a tree, whatever stands beside the block in its row.
-use Rattle.std.specs.Prelude.{◌≡◌, ℕ, zero, suc, ◌≤◌, true, false, List, [], ◌∷◌, ◌++◌, length}
+use Rattle.std.specs.Prelude.{◌≡◌, ℕ, zero, suc, ◌≤◌, true, false, List, [], ◌∷◌, ◌++◌}
 use Rattle.xr_kinds.specs.Form.{Form}
-use Rattle.xr_base.specs.declared.geometry.TheConstants.{BLOCKS}
-use Rattle.xr_pool.specs.Overlay.{AreBlocks, AreWhole, Blocks, block_at, is_free, pool_size}
+use Rattle.xr_pool.specs.Overlay.{Blocks, block_at, is_changed, is_free, pool_size}
 use Rattle.xr_block.specs.Rows.{AreRowsOf, Held, IsWholeLeaf, IsWholeNode, min_records}
 use Rattle.xr_block.specs.Times.{times}
 use Rattle.xr_block.specs.Tree.{IsUsed, blocks_of, site_of, tree_held}
 use Rattle.xr_block.specs.TreeBlock.{Place, Site, entries_in, records_in}
-
--- what is known of any overlay
-pub record AreKnown (b : Blocks) : Type 0 where
-  pub all : AreBlocks b
-  pub whole : AreWhole b.current
-  pub identified : length b.uuid ≡ 16
-  pub small : pool_size b ≤ BLOCKS
 
 -- the rows from one on down are those of a tree, no block stands twice in them, and none is free
 pub record AreRowsIn {X : Type 0} (form : Form X) (b : Blocks) (least level : ℕ) (row : List ℕ) : Type 0 where
@@ -30,6 +23,11 @@ IsWholeAt form site held (suc level) least place bytes = IsWholeNode form site h
 pub record HoldsSame {X : Type 0} (form : Form X) (before after : Blocks) (m : ℕ) : Type 0 where
   pub same_records : records_in form (block_at after m) ≡ records_in form (block_at before m)
   pub same_entries : entries_in form (block_at after m) ≡ entries_in form (block_at before m)
+
+-- a block has the bytes that it had, and is marked as changed if it was
+pub record IsUntouched (before after : Blocks) (m : ℕ) : Type 0 where
+  pub bytes : block_at after m ≡ block_at before m
+  pub mark : is_changed after m ≡ is_changed before m
 
 -- whatever is written in blocks, whose they are and what was kept stay
 pub record IsSamePool (before after : Blocks) : Type 0 where
@@ -48,8 +46,8 @@ pub record Alters {X : Type 0} (form : Form X) (before after : Blocks) (floor le
   pub held : (m : ℕ) → is_free before m ≡ false → times m (blocks_of form before level (n ∷ [])) ≡ 0
       → HoldsSame form before after m × (is_free after m ≡ false) × (times m (blocks_of form after level (n ∷ [])) ≡ 0)
   -- and what stands in no row from here on down isn't touched
-  pub bytes : (least : ℕ) (pre post : List ℕ) → least ≤ floor → AreRowsIn form before least level (pre ++ n ∷ post) → (m : ℕ)
-      → is_free before m ≡ false → times m (blocks_of form before level (pre ++ n ∷ post)) ≡ 0 → block_at after m ≡ block_at before m
+  pub untouched : (least : ℕ) (pre post : List ℕ) → least ≤ floor → AreRowsIn form before least level (pre ++ n ∷ post) → (m : ℕ)
+      → is_free before m ≡ false → times m (blocks_of form before level (pre ++ n ∷ post)) ≡ 0 → IsUntouched before after m
   -- what the tree lost is free, and what it didn't take stays free
   pub freed : (m : ℕ) → 1 ≤ times m (blocks_of form before level (n ∷ [])) → times m (blocks_of form after level (n ∷ [])) ≡ 0 → is_free after m ≡ true
   pub spare : (m : ℕ) → is_free before m ≡ true → times m (blocks_of form after level (n ∷ [])) ≡ 0 → is_free after m ≡ true
@@ -60,7 +58,7 @@ pub record Takes {X : Type 0} (form : Form X) (before after : Blocks) (level : �
   pub rows : (pre post : List ℕ) → AreRowsIn form before (min_records form level) level (pre ++ (old ++ post)) → AreRowsIn form after (min_records form level) level (pre ++ (new ++ post))
   pub held : (m : ℕ) → is_free before m ≡ false → times m (blocks_of form before level old) ≡ 0
       → HoldsSame form before after m × (is_free after m ≡ false) × (times m (blocks_of form after level new) ≡ 0)
-  pub bytes : (pre post : List ℕ) → AreRowsIn form before (min_records form level) level (pre ++ (old ++ post)) → (m : ℕ)
-      → is_free before m ≡ false → times m (blocks_of form before level (pre ++ (old ++ post))) ≡ 0 → block_at after m ≡ block_at before m
+  pub untouched : (pre post : List ℕ) → AreRowsIn form before (min_records form level) level (pre ++ (old ++ post)) → (m : ℕ)
+      → is_free before m ≡ false → times m (blocks_of form before level (pre ++ (old ++ post))) ≡ 0 → IsUntouched before after m
   pub freed : (m : ℕ) → 1 ≤ times m (blocks_of form before level old) → times m (blocks_of form after level new) ≡ 0 → is_free after m ≡ true
   pub spare : (m : ℕ) → is_free before m ≡ true → times m (blocks_of form after level new) ≡ 0 → is_free after m ≡ true

@@ -1,17 +1,17 @@
+-- Of no public contract.
 -- The records below a block, changed by an insertion, a removal or a replacement, and the path down to the child in which it goes on.
 use Rattle.std.specs.Prelude.{◌≡◌, ℕ, suc, ◌+◌, ◌*◌, ◌<◌, ◌≤◌, true, List, [], ◌∷◌, ◌++◌, length, take, drop}
 use Rattle.std.specs.List.{Contains}
 use Rattle.xr_kinds.specs.Form.{Form}
-use Rattle.xr_block.specs.Frame.{ChangesOnly}
-use Rattle.xr_pool.specs.Overlay.{Blocks, block_at, changed_blocks, free_count, pool_size}
+use Rattle.xr_pool.specs.Overlay.{Blocks, block_at, changed_blocks, free_count, is_changed, pool_size}
 use Rattle.xr_block.specs.Rows.{min_records, named_below}
-use Rattle.xr_block.specs.Tree.{IsTreeIn, records_of, tree_blocks, tree_held, tree_records}
+use Rattle.xr_block.specs.Tree.{records_of, tree_held}
 use Rattle.xr_block.specs.TreeBlock.{count_in, entries_in}
 use Rattle.xr_change.specs.Alters.{Alters, AreRowsIn}
 use Rattle.xr_change.specs.Regroups.{IsSameUnder}
 use Rattle.xr_change.specs.Sets.{inserted, removed, replaced}
 use Rattle.xr_change.specs.Paths.{IsInTree, child_of, full_on_path, item_count, max_records, next_full}
-use Rattle.xr_change.specs.Writes.{MarksAtMost, is_changed, unchanged}
+use Rattle.xr_change.specs.Writes.{MarksAtMost, unchanged}
 
 -- the tree under a block is another one with the records that the change makes of those before. The block may have lost so many items.
 pub record Changes {X : Type 0} (form : Form X) (a b : Blocks) (lost level n : ℕ) (change : List X → List X) : Type 0 where

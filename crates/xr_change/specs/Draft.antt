@@ -1,10 +1,10 @@
+-- Of no public contract.
 -- The blocks of a pool while some of them are edited, as they are once those that were edited have their checksums.
 use Rattle.std.specs.Prelude.{◌≡◌, ℕ, suc, ◌<◌, Bool, true, if◌then◌else◌, List, [], ◌∷◌, drop, nat_eq}
 use Rattle.std.specs.List.{All, list_any}
 use Rattle.xr_kinds.specs.Form.{Form, header_size}
-use Rattle.xr_pool.specs.Overlay.{Blocks, pool_size}
+use Rattle.xr_pool.specs.Overlay.{Blocks, is_changed, pool_size}
 use Rattle.xr_block.specs.TreeBlock.{count_in}
-use Rattle.xr_change.specs.Writes.{is_changed}
 use Rattle.xr_block.specs.Edits.{sealed}
 use Rattle.xr_block.specs.Checks.{left_in, right_in}
 

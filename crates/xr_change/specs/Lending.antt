@@ -1,3 +1,4 @@
+-- Of no public contract.
 -- A block of a draft that is lent.
 use Rattle.std.specs.Prelude.{ℕ, List}
 use Rattle.std.specs.Borrow.{Lends, MutBor, Fml, Array, RattleType, u8}

@@ -6,5 +6,9 @@ pub mod Lending
 pub mod Paths
 pub mod Regroups
 pub mod Roots
+pub mod SetLaws
+pub mod SetRules
 pub mod Sets
+pub mod TreeStepLaws
+pub mod TreeSteps
 pub mod Writes

@@ -3,11 +3,11 @@ use Rattle.std.specs.Prelude.{◌≡◌, ℕ, zero, suc, ◌+◌, ◌-◌, ◌^�
 use Rattle.std.specs.List.{All, AllPairs}
 use Rattle.std.specs.declared.cmp.Ordering.TheVariants.{Less}
 use Rattle.xr_kinds.specs.Form.{Form}
-use Rattle.xr_pool.specs.Overlay.{Blocks, block_at}
+use Rattle.xr_pool.specs.Overlay.{Blocks, block_at, AreKnown}
 use Rattle.xr_block.specs.Rows.{named_below}
 use Rattle.xr_block.specs.Tree.{records_of, tree_held}
 use Rattle.xr_block.specs.TreeBlock.{Entry, entries_in, records_in}
-use Rattle.xr_change.specs.Alters.{AreKnown, AreRowsIn}
+use Rattle.xr_change.specs.Alters.{AreRowsIn}
 use Rattle.xr_block.specs.Bounds.{entry_is_before}
 use Rattle.xr_block.specs.declared.bound.Bound.TheVariants.{After}
 
@@ -26,6 +26,10 @@ is_full form b level n = item_count form b level n == max_records form level
 -- a child of a node
 abbrev pub child_of : {X : Type 0} → Form X → Blocks → ℕ → ℕ → ℕ
 child_of form b n k = slice_index_or (named_below (tree_held form b) n) k 0
+
+-- the items of two children of a node, one after the other
+abbrev pub items_of_two : {X : Type 0} → Form X → Blocks → ℕ → ℕ → ℕ → ℕ
+items_of_two form b level n k = item_count form b level (child_of form b n k) + item_count form b level (child_of form b n (k + 1))
 
 -- how many items stand in front of the first that fails
 unfoldable pub passing : {A : Type 0} → (A → Bool) → List A → ℕ

@@ -1,5 +1,6 @@
--- The items of a block of any level, records of a leaf or entries of a node, and neighbouring children of a node that are taken for others which
--- hold the same items: one is split, two rebalance their items anew, or two become one.
+-- Of no public contract.
+-- The items of a block of any level, records of a leaf or entries of a node, and sibling children of a node that are taken for others which
+-- hold the same items: one is split, two share their items anew, or two become one.
 use Rattle.std.specs.Prelude.{◌≡◌, ℕ, zero, suc, ◌<◌, ◌≤◌, true, Option, Some, List, [], ◌∷◌, ◌++◌, length, map, take, drop}
 use Rattle.std.specs.List.{flat_map}
 use Rattle.xr_kinds.specs.Form.{Form}

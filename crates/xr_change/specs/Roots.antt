@@ -1,12 +1,18 @@
--- A tree whose root is another block, one level shrink_root or one higher: its records are the same.
-use Rattle.std.specs.Prelude.{◌≡◌, ℕ, ◌+◌, ◌<◌, ◌≤◌, true, [], ◌∷◌}
+-- Of no public contract.
+-- A tree whose root is another block, one level lower or one higher: its records are the same.
+use Rattle.std.specs.Prelude.{◌≡◌, ℕ, ◌+◌, ◌<◌, ◌≤◌, None, true, [], ◌∷◌}
 use Rattle.xr_kinds.specs.Form.{Form}
 use Rattle.xr_block.specs.Frame.{ChangesOnly}
-use Rattle.xr_pool.specs.Overlay.{Blocks, free_count}
+use Rattle.xr_pool.specs.Overlay.{Blocks, free_count, is_changed}
+use Rattle.xr_block.specs.TreeBlock.{Place}
 use Rattle.xr_block.specs.Tree.{IsTreeIn, records_of, tree_blocks, tree_records}
 use Rattle.xr_change.specs.Alters.{AreRowsIn}
 use Rattle.xr_change.specs.Paths.{HasSome, IsInTree, blocks_wanted, full_on_path, item_count, max_records, next_full}
-use Rattle.xr_change.specs.Writes.{MarksAtMost, is_changed}
+use Rattle.xr_change.specs.Writes.{MarksAtMost}
+
+-- the place of a block that is alone in its level
+abbrev pub alone : ℕ → ℕ → Place
+alone n level = record { number = n; level = level; left = None; right = None }
 
 pub record ShrinksRoot {X : Type 0} (form : Form X) (before after : Blocks) (root level root' level' : ℕ) : Type 0 where
   pub tree : IsTreeIn form after root' level'

@@ -3,9 +3,8 @@
 ghost use Rattle.std.specs.Prelude.{◌≡◌, ℕ, ◌<◌, ◌≤◌, [], List, true};
 ghost use Rattle.std.specs.Borrow.{sem};
 ghost use Rattle.arrayvec.specs.ArrayVec.{array_vec_len};
-ghost use Rattle.xr_pool.specs.Overlay.{block_at, free_count, is_free, pool_size, with_block, with_given, with_taken};
+ghost use Rattle.xr_pool.specs.Overlay.{block_at, free_count, is_free, pool_size, with_block, with_given, with_taken, AreKnown};
 ghost use Rattle.xr_block.specs.Tree.{site_of};
-ghost use Rattle.xr_change.specs.Alters.{AreKnown};
 ghost use Rattle.xr_change.specs.Draft.{AreEdited, ReadsAs, all_sealed};
 ghost use Rattle.xr_change.specs.Lending.{lends_block};
 ghost use Rattle.xr_block.specs.Edits.{IsHeader, sealed};

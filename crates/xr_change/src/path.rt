@@ -36,15 +36,19 @@ pub(crate) fn path_index<R: Record>(draft: &Draft<R>, n: u32, level: u32, r: &R)
     child_place(draft.block(n), &Bound::After(*r)).saturating_sub(1)
 }
 
-/// The one of two neighbouring children under which a record belongs that belongs under one of them.
+/// The one of two sibling children under which a record belongs that belongs under one of them.
 pub(crate) fn path_half<R: Record>(draft: &Draft<R>, n: u32, level: u32, k: usize, r: &R) -> usize
     requires here { IsInTree R.form draft.now (level + 1) n }
     requires within { k + 1 < item_count R.form draft.now (level + 1) n }
-    requires before { All (λ x. R.form.order x r.now ≡ Less) (records_of R.form draft.now level (take k (named_below (tree_held R.form draft.now) n))) }
-    requires after { All (λ x. R.form.order r.now x ≡ Less) (records_of R.form draft.now level (drop (k + 2) (named_below (tree_held R.form draft.now) n))) }
+    requires before { All (λ x. R.form.order x r.now
+        ≡ Less) (records_of R.form draft.now level (take k (named_below (tree_held R.form draft.now) n))) }
+    requires after { All (λ x. R.form.order r.now x
+        ≡ Less) (records_of R.form draft.now level (drop (k + 2) (named_below (tree_held R.form draft.now) n))) }
     ensures path { IsOnPath R.form draft.now level n r.now result }
-    ensures first { (d : Entry) → result ≡ k → entry_is_before R.form (After r.now) (slice_index_or (entries_in R.form (block_at draft.now n)) (k + 1) d) ≡ false }
-    ensures second { (d : Entry) → result ≡ k + 1 → entry_is_before R.form (After r.now) (slice_index_or (entries_in R.form (block_at draft.now n)) (k + 1) d) ≡ true }
+    ensures first { (d : Entry) → result ≡ k
+        → entry_is_before R.form (After r.now) (slice_index_or (entries_in R.form (block_at draft.now n)) (k + 1) d) ≡ false }
+    ensures second { (d : Entry) → result ≡ k + 1
+        → entry_is_before R.form (After r.now) (slice_index_or (entries_in R.form (block_at draft.now n)) (k + 1) d) ≡ true }
     ensures either { (result ≡ k) ⊎ (result ≡ k + 1) }
 {
     let next = k + 1;
@@ -133,13 +137,14 @@ fn child_count<R: Record>(draft: &Draft<R>, n: u32, level: u32, k: usize) -> usi
     count_of(draft.block(child))
 }
 
-/// The place of a child that is min_records full, once it was given items of a sibling or joined with it.
+/// The place of a child that has no more than the least number of items, once it was given items of a sibling or joined with it.
 fn fill_child<R: Record>(draft: &mut Draft<R>, n: u32, level: u32, k: usize) -> usize
     requires here { IsInTree R.form draft.old (level + 1) n }
     requires two { 2 ≤ length (entries_in R.form (block_at draft.old n)) }
     requires within { k < length (entries_in R.form (block_at draft.old n)) }
     requires low { item_count R.form draft.old level (child_of R.form draft.old n k) ≤ min_records R.form level }
-    ensures { (r : R) → Contains (records_of R.form draft.old level (child_of R.form draft.old n k ∷ [])) r → HasPathWithSurplus R.form draft.old draft.new level n r result }
+    ensures { (r : R) → Contains (records_of R.form draft.old level (child_of R.form draft.old n k ∷ [])) r
+        → HasPathWithSurplus R.form draft.old draft.new level n r result }
 {
     draft.is_known();
     let left = k.saturating_sub(1);

@@ -1,11 +1,11 @@
 //! Children of a node that are rearranged: a full one is split, two are rebalanced, or one takes the items of the next.
 ghost use Rattle.std.specs.Prelude.{◌≡◌, ◌+◌, ◌<◌, ◌≤◌, [], ◌∷◌, true, length, ℕ, ◌^◌, Some};
-ghost use Rattle.xr_pool.specs.Overlay.{block_at, free_count, pool_size};
+ghost use Rattle.xr_pool.specs.Overlay.{block_at, free_count, is_changed, pool_size};
 ghost use Rattle.xr_block.specs.Rows.{min_records};
 ghost use Rattle.xr_block.specs.TreeBlock.{entries_in};
 ghost use Rattle.xr_change.specs.Regroups.{Regroups, MovesItems, IsBetweenSiblings};
-ghost use Rattle.xr_change.specs.Paths.{IsInTree, child_of, item_count, max_records};
-ghost use Rattle.xr_change.specs.Writes.{MarksAtMost, is_changed, unchanged};
+ghost use Rattle.xr_change.specs.Paths.{items_of_two, IsInTree, child_of, item_count, max_records};
+ghost use Rattle.xr_change.specs.Writes.{MarksAtMost, unchanged};
 ghost use Rattle.std.specs.Option.{option_to_list};
 ghost use Rattle.xr_block.specs.Checks.{left_in, right_in};
 
@@ -19,7 +19,7 @@ use xr_block::siblings::{left_of, right_of};
 use xr_kinds::Record;
 use xr_pool::Block;
 
-/// Splits a full child of a node that isn't full: a new block takes the upper min_records of its items and stands after it. Gives the new
+/// Splits a full child of a node that isn't full: a new block takes the upper half of its items and stands after it. Gives the new
 /// block.
 pub(crate) fn split_child<R: Record>(draft: &mut Draft<R>, n: u32, level: u32, k: usize) -> u32
     requires here { IsInTree R.form draft.old (level + 1) n }
@@ -27,10 +27,12 @@ pub(crate) fn split_child<R: Record>(draft: &mut Draft<R>, n: u32, level: u32, k
     requires room { length (entries_in R.form (block_at draft.old n)) < R.form.node_max }
     requires full { item_count R.form draft.old level (child_of R.form draft.old n k) ≡ max_records R.form level }
     requires spare { 1 ≤ free_count draft.old }
-    ensures split { (let c = child_of R.form draft.old n k in Regroups R.form draft.old draft.new level n k (k + 1) (c ∷ []) (c ∷ result ∷ [])) }
+    ensures split { (let c = child_of R.form draft.old n k in
+        Regroups R.form draft.old draft.new level n k (k + 1) (c ∷ []) (c ∷ result ∷ [])) }
     ensures free { free_count draft.old ≡ free_count draft.new + 1 }
     ensures marks { MarksAtMost draft.old draft.new (unchanged draft.old n + 3) }
-    ensures changed { (is_changed draft.new n ≡ true) × (is_changed draft.new (child_of R.form draft.old n k) ≡ true) × (is_changed draft.new result ≡ true) }
+    ensures changed { (is_changed draft.new n ≡ true) × (is_changed draft.new (child_of R.form draft.old n k) ≡ true)
+        × (is_changed draft.new result ≡ true) }
 {
     let child = child_block::<R>(draft, n, level, k);
     let fresh = draft.take_free();
@@ -40,7 +42,7 @@ pub(crate) fn split_child<R: Record>(draft: &mut Draft<R>, n: u32, level: u32, k
     fresh
 }
 
-/// MovesItems the items of two neighbouring children anew: the left one has `count` of them then.
+/// MovesItems the items of two sibling children anew: the left one has `count` of them then.
 pub(crate) fn rebalance_children<R: Record>(
     draft: &mut Draft<R>,
     n: u32,
@@ -51,10 +53,10 @@ pub(crate) fn rebalance_children<R: Record>(
     requires here { IsInTree R.form draft.old (level + 1) n }
     requires within { k + 1 < length (entries_in R.form (block_at draft.old n)) }
     requires low { (min_records R.form level ≤ count) × (count ≤ max_records R.form level) }
-    requires high { min_records R.form level + count ≤ item_count R.form draft.old level (child_of R.form draft.old n k) + item_count R.form draft.old level (child_of R.form draft.old n (k + 1)) }
-    requires high_most { item_count R.form draft.old level (child_of R.form draft.old n k) + item_count R.form draft.old level (child_of R.form draft.old n (k + 1))
-        ≤ max_records R.form level + count }
-    ensures rebalance { (let c = child_of R.form draft.old n k in let d = child_of R.form draft.old n (k + 1) in Regroups R.form draft.old draft.new level n k (k + 2) (c ∷ d ∷ []) (c ∷ d ∷ [])) }
+    requires high { min_records R.form level + count ≤ items_of_two R.form draft.old level n k }
+    requires high_most { items_of_two R.form draft.old level n k ≤ max_records R.form level + count }
+    ensures rebalance { (let c = child_of R.form draft.old n k in let d = child_of R.form draft.old n (k + 1) in
+        Regroups R.form draft.old draft.new level n k (k + 2) (c ∷ d ∷ []) (c ∷ d ∷ [])) }
     ensures count { item_count R.form draft.new level (child_of R.form draft.old n k) ≡ count }
     ensures marks { MarksAtMost draft.old draft.new (unchanged draft.old n + 2) }
     ensures changed { (is_changed draft.new n ≡ true) × (is_changed draft.new (child_of R.form draft.old n k) ≡ true)
@@ -71,9 +73,9 @@ pub(crate) fn rebalance_children<R: Record>(
 pub(crate) fn merge_children<R: Record>(draft: &mut Draft<R>, n: u32, level: u32, k: usize)
     requires here { IsInTree R.form draft.old (level + 1) n }
     requires within { k + 1 < length (entries_in R.form (block_at draft.old n)) }
-    requires fits { item_count R.form draft.old level (child_of R.form draft.old n k) + item_count R.form draft.old level (child_of R.form draft.old n (k + 1))
-        ≤ max_records R.form level }
-    ensures merge { (let c = child_of R.form draft.old n k in let d = child_of R.form draft.old n (k + 1) in Regroups R.form draft.old draft.new level n k (k + 2) (c ∷ d ∷ []) (c ∷ [])) }
+    requires fits { items_of_two R.form draft.old level n k ≤ max_records R.form level }
+    ensures merge { (let c = child_of R.form draft.old n k in let d = child_of R.form draft.old n (k + 1) in
+        Regroups R.form draft.old draft.new level n k (k + 2) (c ∷ d ∷ []) (c ∷ [])) }
     ensures marks { MarksAtMost draft.old draft.new (unchanged draft.old n + 3) }
     ensures changed { (is_changed draft.new n ≡ true) × (is_changed draft.new (child_of R.form draft.old n k) ≡ true) }
 {
@@ -106,7 +108,8 @@ pub(crate) fn split_items<R: Record>(draft: &mut Draft<R>, level: u32, c: u32, m
     requires within { m < pool_size draft.old }
     requires apart { c ≡ m → ⊥ }
     requires beside { (q : ℕ) → right_in R.form (block_at draft.old c) ≡ Some q → q ≡ m → ⊥ }
-    ensures { MovesItems R.form draft.old draft.new level (c ∷ []) (c ∷ m ∷ []) (c ∷ m ∷ option_to_list (right_in R.form (block_at draft.old c))) c m }
+    ensures { MovesItems R.form draft.old draft.new level (c ∷ []) (c ∷ m ∷ [])
+        (c ∷ m ∷ option_to_list (right_in R.form (block_at draft.old c))) c m }
 {
     draft.is_known();
     let block = copy_of(draft, c);
@@ -161,7 +164,8 @@ pub(crate) fn merge_items<R: Record>(draft: &mut Draft<R>, level: u32, c: u32, d
     requires placed { IsBetweenSiblings R.form draft.old level c × IsBetweenSiblings R.form draft.old level d }
     requires beside { (q : ℕ) → right_in R.form (block_at draft.old d) ≡ Some q → q ≡ c → ⊥ }
     requires fits { item_count R.form draft.old level c + item_count R.form draft.old level d ≤ max_records R.form level }
-    ensures { MovesItems R.form draft.old draft.new level (c ∷ d ∷ []) (c ∷ []) (c ∷ option_to_list (right_in R.form (block_at draft.old d))) d c }
+    ensures { MovesItems R.form draft.old draft.new level (c ∷ d ∷ []) (c ∷ [])
+        (c ∷ option_to_list (right_in R.form (block_at draft.old d))) d c }
 {
     draft.is_known();
     let first = copy_of(draft, c);

@@ -6,7 +6,7 @@ ghost use Rattle.xr_block.specs.Rows.{min_records};
 ghost use Rattle.xr_block.specs.Tree.{AreRecords, IsTreeIn, site_of, tree_records};
 ghost use Rattle.xr_block.specs.TreeBlock.{Place, Site};
 ghost use Rattle.xr_change.specs.Alters.{AreRowsIn};
-ghost use Rattle.xr_change.specs.Roots.{GrowsRoot, ShrinksRoot};
+ghost use Rattle.xr_change.specs.Roots.{alone, GrowsRoot, ShrinksRoot};
 ghost use Rattle.xr_change.specs.Regroups.{entry_for};
 ghost use Rattle.xr_change.specs.Paths.{blocks_wanted, item_count, max_records, HasSome};
 ghost use Rattle.xr_change.specs.Writes.{Writes};
@@ -14,9 +14,9 @@ ghost use Rattle.xr_block.specs.Edits.{IsHeader, IsNodeOf, sealed};
 
 use crate::draft::Draft;
 use crate::path::child_block;
-use crate::write::put_key;
+use crate::write::key_of;
 use xr_base::layout::LONG_POINTER_BYTES;
-use xr_block::key::{KEY_ROOM, key_fits};
+use xr_block::key::KEY_ROOM;
 use xr_block::read::{count_of, pointer_bytes};
 use xr_block::{Header, Root, build_node, put_number};
 use xr_kinds::Record;
@@ -41,14 +41,13 @@ fn put_node_above<R: Record>(draft: &mut Draft<R>, p: u32, root: Root)
     requires rows { AreRowsIn R.form draft.old (min_records R.form root.level) root.level (root.block ∷ []) }
     ensures level { root.level + 1 < 2 ^ 16 }
     ensures writes { Writes draft.old draft.new (p ∷ []) }
-    ensures node { IsNodeOf R.form (site_of draft.old) (record { number = p; level = root.level + 1; left = None; right = None }) (entry_for R.form draft.old root.level root.block ∷ []) (block_at draft.new p) }
+    ensures node { IsNodeOf R.form (site_of draft.old) (alone p (root.level + 1))
+        (entry_for R.form draft.old root.level root.block ∷ []) (block_at draft.new p) }
 {
     draft.is_known();
-    key_fits::<R>();
     let fields = draft.header(p, root.level + 1, None, None);
-    let mut room = [0; KEY_ROOM];
-    let key = &mut room[..R::LOW + R::HIGH];
-    put_key::<R>(draft.block(root.block), root.level, key);
+    let mut scratch = [0; KEY_ROOM];
+    let key = key_of(draft, root.level, root.block, &mut scratch);
     put_single::<R>(draft.block_mut(p), &fields, key, root.block);
 }
 

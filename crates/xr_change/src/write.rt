@@ -32,7 +32,7 @@ pub(crate) fn copy_of<R: Record>(draft: &Draft<R>, n: u32) -> Block
     *draft.block(n)
 }
 
-/// A neighbour's block as a number of the pool.
+/// A sibling's block as a number of the pool.
 pub(crate) fn pool_number(near: Option<u64>) -> Option<u32>
     requires { (q : ℕ) → near ≡ Some q → q < 2 ^ 32 }
     ensures { result ≡ near }
@@ -112,7 +112,7 @@ pub(crate) fn set_left_sibling<R: Record>(draft: &mut Draft<R>, next: Option<u32
 }
 
 /// Writes the key that a block gives to its parent.
-pub(crate) fn put_key<R: Record>(block: &Block, level: u32, out: &mut [u8])
+fn put_key<R: Record>(block: &Block, level: u32, out: &mut [u8])
     requires keyed { GivesKey R.form level block.now }
     requires long { length out.old ≡ key_size R.form }
     ensures { (n : ℕ) (at : ℕ → List ℕ) → at n ≡ block.now → out.new ≡ key_held R.form (held_in R.form at) level n }
@@ -122,6 +122,24 @@ pub(crate) fn put_key<R: Record>(block: &Block, level: u32, out: &mut [u8])
     } else {
         put_key_of_node::<R>(block, out);
     }
+}
+
+/// The key that a block gives to its parent.
+pub(crate) fn key_of<'a, R: Record>(
+    draft: &Draft<R>,
+    level: u32,
+    c: u32,
+    scratch: &'a mut [u8; KEY_ROOM],
+) -> &'a [u8]
+    requires here { c < pool_size draft.now }
+    requires keyed { GivesKey R.form level (block_at draft.now c) }
+    ensures long { length result.now ≡ key_size R.form }
+    ensures key { result.now ≡ key_held R.form (tree_held R.form draft.now) level c }
+{
+    key_fits::<R>();
+    let key = &mut scratch[..R::LOW + R::HIGH];
+    put_key::<R>(draft.block(c), level, key);
+    key
 }
 
 /// Gives a child of a node the key that its block has now.
@@ -135,10 +153,8 @@ pub(crate) fn set_child_key<R: Record>(draft: &mut Draft<R>, n: u32, level: u32,
         → IsNodeOf R.form site place (with_key k (key_held R.form (tree_held R.form draft.old) level c) entries) (block_at draft.new n) }
 {
     draft.is_known();
-    key_fits::<R>();
-    let mut room = [0; KEY_ROOM];
-    let key = &mut room[..R::LOW + R::HIGH];
-    put_key::<R>(draft.block(c), level, key);
+    let mut scratch = [0; KEY_ROOM];
+    let key = key_of(draft, level, c, &mut scratch);
     set_key::<R>(draft.block_mut(n), k, key);
 }
 
@@ -153,10 +169,8 @@ pub(crate) fn insert_child<R: Record>(draft: &mut Draft<R>, n: u32, level: u32, 
         → IsNodeOf R.form site place (insert entries k (entry_for R.form draft.old level m)) (block_at draft.new n) }
 {
     draft.is_known();
-    key_fits::<R>();
-    let mut room = [0; KEY_ROOM];
-    let key = &mut room[..R::LOW + R::HIGH];
-    put_key::<R>(draft.block(m), level, key);
+    let mut scratch = [0; KEY_ROOM];
+    let key = key_of(draft, level, m, &mut scratch);
     insert_entry::<R>(draft.block_mut(n), k, key, m);
 }
 
@@ -183,10 +197,8 @@ pub(crate) fn update_key<R: Record>(draft: &mut Draft<R>, n: u32, level: u32, k:
         → IsNodeOf R.form site place (with_key k (key_held R.form (tree_held R.form draft.old) level c) entries) (block_at draft.new n) }
 {
     draft.is_known();
-    key_fits::<R>();
-    let mut room = [0; KEY_ROOM];
-    let key = &mut room[..R::LOW + R::HIGH];
-    put_key::<R>(draft.block(c), level, key);
+    let mut scratch = [0; KEY_ROOM];
+    let key = key_of(draft, level, c, &mut scratch);
     if is_same(key_at::<R>(draft.block(n), k), key) {
         return;
     }

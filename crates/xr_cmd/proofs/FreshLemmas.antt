@@ -10,9 +10,10 @@ use Rattle.xr_disk.specs.Disk.{DiskView, OnlyReads}
 use Rattle.xr_disk.specs.Runs.{nothing_read, read_on}
 use Rattle.xr_headers.specs.FreshImage.{fresh_block_of, fresh_image}
 use Rattle.xr_headers.specs.Headers.{super_block}
-use Rattle.xr_cmd.specs.Fresh.{HasFreshBlocks, IsFreshImage, IsFreshUpTo, IsFirstForeign, cycle_after}
+use Rattle.xr_cmd.specs.Fresh.{HasFreshBlocks, IsFreshImage, IsFreshUpTo, IsFirstForeign}
+use Rattle.xr_cmd.specs.FreshSearch.{cycle_after}
 use Rattle.xr_disk.specs.Seen.{WasSeen}
-use Rattle.xr_cmd.specs.Making.{IsLong}
+use Rattle.xr_cmd.specs.MkfsSteps.{IsLong}
 use Rattle.xr_headers.specs.FreshLaws.{fresh_block_of-super, fresh_block_of-cycle, cycle_in-fresh, super_block-uuid}
 
 -- what was read is a block of what was seen
@@ -32,7 +33,8 @@ pub record IsSearching (uuid : List ℕ) (cycle n : ℕ) (old new : DiskView) : 
   pub some_cycle : 1 ≤ cycle
   pub last_cycle : cycle < CYCLES
   pub reads : OnlyReads old new
-  pub faults : old.faults ≤ new.faults
+  pub faults : new.faults ≡ old.faults
+  pub clock : new.moment + 1 ≤ old.moment + n
 
 pub search_begins : (uuid : List ℕ) (disk : DiskView) → IsSearching uuid 1 1 disk disk
 search_begins uuid disk = record {
@@ -42,6 +44,7 @@ search_begins uuid disk = record {
   last_cycle = omega arith;
   reads = nothing_read disk;
   faults = omega arith;
+  clock = omega arith;
 }
 
 -- one block more, which may have changed the cycle
@@ -57,8 +60,8 @@ fresh_on uuid cycle n bytes image fresh is same k from_zero below = ⊎_elim
 
 pub search_goes_on : (uuid : List ℕ) (cycle n cycle' : ℕ) (bytes : List ℕ) (old mid new : DiskView)
     → IsSearching uuid cycle n old mid → WasSeen mid.seen (λ image. bytes ≡ block_of image n) → cycle' ≡ cycle_after n bytes cycle
-    → IsFreshBlock uuid cycle' n bytes → OnlyReads mid new → mid.faults ≤ new.faults → IsSearching uuid cycle' (n + 1) old new
-search_goes_on uuid cycle n cycle' bytes old mid new search read is_cycle fresh reads kept =
+    → IsFreshBlock uuid cycle' n bytes → OnlyReads mid new → new.faults ≡ mid.faults → new.moment ≤ mid.moment + 1 → IsSearching uuid cycle' (n + 1) old new
+search_goes_on uuid cycle n cycle' bytes old mid new search read is_cycle fresh reads kept clock =
     record {
       fresh = λ image seen first. subst (λ (c : ℕ). HasFreshBlocks uuid c 0 (n + 1) image) (sym is_cycle)
           (fresh_on uuid cycle n bytes image (search.fresh image seen first) (read image (search.reads.same.seen ∙ seen))
@@ -67,6 +70,7 @@ search_goes_on uuid cycle n cycle' bytes old mid new search read is_cycle fresh 
       last_cycle = fresh.1;
       reads = read_on search.reads reads;
       faults = let before = search.faults in omega arith;
+      clock = let before = search.clock in omega arith;
     }
 
 -- it ends at a block that isn't fresh: with no identifier and no cycle are it and those before it
@@ -89,11 +93,12 @@ foreign_here uuid cycle n bytes image long some last first is not_fresh up =
     not_fresh (omega arith, omega arith, here ∙ fresh_block_of-cycle uuid up.cycle (cycle_after n bytes cycle) n other))
     (cases_eq n FIRST_LOG_BLOCK)
 
-pub search_finds : (uuid : List ℕ) (cycle n cycle' : ℕ) (bytes : List ℕ) (old mid : DiskView)
+pub search_finds : (uuid : List ℕ) (cycle n cycle' : ℕ) (bytes : List ℕ) (old mid : DiskView) → n < BLOCKS
     → IsSearching uuid cycle n old mid → WasSeen mid.seen (λ image. bytes ≡ block_of image n) → cycle' ≡ cycle_after n bytes cycle
     → ¬ IsFreshBlock uuid cycle' n bytes
     → WasSeen old.seen (λ image. length uuid ≡ UUID_BYTES → block_of image 0 ≡ fresh_block_of uuid 1 0 → IsFirstForeign image n)
-search_finds uuid cycle n cycle' bytes old mid search read is_cycle not_fresh image seen long first = record {
+search_finds uuid cycle n cycle' bytes old mid within search read is_cycle not_fresh image seen long first = record {
+  within = within;
   before = record {
     uuid = uuid;
     cycle = cycle;
@@ -119,6 +124,7 @@ search_ends uuid cycle n old new all search long image seen uuid_long first = re
 -- an image whose first block is no superblock isn't fresh from there on
 pub first_is_foreign : (image : List ℕ) → ((uuid : List ℕ) → length uuid ≡ UUID_BYTES → block_of image 0 ≢ super_block (record { uuid = uuid })) → IsFirstForeign image 0
 first_is_foreign image no_super = record {
+  within = omega arith;
   before = record {
     uuid = replicate UUID_BYTES 0;
     cycle = 1;
@@ -133,7 +139,7 @@ pub foreign_found : (seen : Option (List ℕ)) (found : Option ℕ) (block : ℕ
     → WasSeen seen (λ image. MatchOption found (IsFreshImage image) (IsFirstForeign image)) → WasSeen seen (λ image. IsFirstForeign image block)
 foreign_found seen found block is told = λ image was. subst (λ (f : Option ℕ). MatchOption f (IsFreshImage image) (IsFirstForeign image)) is (told image was)
 
--- behind a superblock the search says it all
+-- after a superblock the search says it all
 pub found_after : {E : Type 0} (result : Result (Option ℕ) E) (seen seen' : Option (List ℕ)) (uuid bytes : List ℕ) → length uuid ≡ UUID_BYTES
     → bytes ≡ super_block (record { uuid = uuid }) → WasSeen seen (λ image. bytes ≡ block_of image 0) → seen' ≡ seen
     → IfOk result (λ found. WasSeen seen' (λ image. length uuid ≡ UUID_BYTES → block_of image 0 ≡ fresh_block_of uuid 1 0

@@ -1,11 +1,12 @@
 pub mod AnswerLemmas
+pub mod CommandLineLemmas
 pub mod FreshLemmas
 pub mod LineLemmas
 pub mod ListTextLemmas
 pub mod LogTextLemmas
+pub mod MkfsCrashLemmas
 pub mod MkfsLemmas
 pub mod NumberLemmas
 pub mod PutLemmas
 pub mod ReadLemmas
 pub mod StepLineLemmas
-pub mod WordLemmas

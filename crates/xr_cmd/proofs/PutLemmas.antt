@@ -1,5 +1,5 @@
 -- Putting bytes in many calls, each of which appends some of those that are left.
-use Rattle.std.proofs.Common.{◌≡◌, ℕ, ◌+◌, ◌≤◌, Option, None, Some, List, ◌++◌, length, take, drop, sym, ap, ◌∙◌, arith, append_assoc, length-drop}
+use Rattle.std.proofs.Common.{◌≡◌, ℕ, ◌+◌, Option, None, Some, List, ◌++◌, length, take, drop, sym, ap, ◌∙◌, arith, append_assoc, length-drop}
 use Rattle.std.proofs.Math.Seq.{take-add}
 use Rattle.xr_disk.specs.Stream.{AppendsFront}
 use Rattle.xr_cmd.specs.Streams.{PutsFront}
@@ -7,7 +7,7 @@ use Rattle.xr_cmd.specs.Streams.{PutsFront}
 -- the first n bytes went into the sink, and without a byte no call was made
 pub record HasPut {O : Type 0} (held : O → Option (List ℕ)) (faults : O → ℕ) (old new : O) (n : ℕ) (bytes : List ℕ) : Type 0 where
   pub front : PutsFront (held old) (held new) n bytes
-  pub kept : faults old ≤ faults new
+  pub counted : faults new ≡ faults old
   pub none : n ≡ 0 → new ≡ old
 
 -- one more call, with the bytes that are left

@@ -1,5 +1,5 @@
 -- Reading bytes in many calls, each of which takes some of those that are left.
-use Rattle.std.proofs.Common.{ℕ, ◌+◌, ◌≤◌, Option, None, Some, List, ◌++◌, length, inr, sym, subst, ap, ◌∙◌, arith, append_assoc, length-append}
+use Rattle.std.proofs.Common.{◌≡◌, ℕ, ◌+◌, ◌≤◌, Option, None, Some, List, ◌++◌, length, inr, sym, subst, ap, ◌∙◌, arith, append_assoc, length-append}
 use Rattle.xr_disk.specs.Stream.{Took}
 use Rattle.xr_cmd.specs.Streams.{StaysWithin}
 
@@ -7,7 +7,7 @@ use Rattle.xr_cmd.specs.Streams.{StaysWithin}
 pub record HasRead {S : Type 0} (left : S → Option (List ℕ)) (faults : S → ℕ) (old new : S) (most : ℕ) (bytes : List ℕ) : Type 0 where
   pub taken : Took (left old) (left new) bytes
   pub bound : length bytes ≤ most
-  pub kept : faults old ≤ faults new
+  pub counted : faults new ≡ faults old
 
 took_more : (old mid new : Option (List ℕ)) (bytes more : List ℕ) → Took old mid bytes → Took mid new more → Took old new (bytes ++ more)
 took_more None mid new bytes more first second = tt

@@ -3,21 +3,23 @@ use Rattle.std.specs.Prelude.{◌≡◌, ◌⊎◌, ℕ, List, Option}
 use Rattle.xr_disk.specs.Disk.{DiskView, IsAtRest}
 use Rattle.xr_headers.specs.FreshImage.{fresh_image}
 use Rattle.xr_maps.specs.FileMaps.{no_maps}
+use Rattle.xr_commit.specs.declared.fault.ScanFault.{ScanFault}
+use Rattle.xr_commit.specs.declared.fault.ScanFault.TheVariants as scan
 use Rattle.xr_cmd.specs.declared.failure.Failure.{Failure}
-use Rattle.xr_cmd.specs.declared.failure.Failure.TheVariants.{BadLine, SourceFailed, DiskFailed, ForeignBlock, NoMemory}
+use Rattle.xr_cmd.specs.declared.failure.Failure.TheVariants.{BadLine, SourceFailed, DiskFailed, Image, NoMemory}
 use Rattle.xr_cmd.specs.declared.program.Status.{Status}
 use Rattle.xr_cmd.specs.declared.program.Status.TheVariants.{Done, Words, Line, Source, Sink, Disk, Foreign, Memory}
 use Rattle.xr_cmd.specs.declared.program.TheConstants.{FIRST_CYCLE}
-use Rattle.xr_cmd.specs.declared.words.Command.{Command}
-use Rattle.xr_cmd.specs.declared.words.Command.TheVariants.{Expect, Mkfs, Show, ShowLog}
+use Rattle.xr_cmd.specs.declared.command_line.Command.{Command}
+use Rattle.xr_cmd.specs.declared.command_line.Command.TheVariants.{Expect, Mkfs, Show, ShowLog}
 use Rattle.xr_cmd.specs.Expect.{Expects, IsTextOfPart}
-use Rattle.xr_cmd.specs.Failures.{WasLeft, HasFailure, cause_number}
+use Rattle.xr_cmd.specs.Failures.{WasLeft, HasFailure}
 use Rattle.xr_cmd.specs.ShowLog.{ShowsLog}
 use Rattle.xr_cmd.specs.Fresh.{IsFreshImage}
 use Rattle.xr_disk.specs.Seen.{WasSeen}
 use Rattle.xr_cmd.specs.RecordText.{words_text, bad_line_text, source_text, disk_text, foreign_text, memory_text, made_text}
 use Rattle.xr_cmd.specs.Streams.{PutsAll, PutsSomeFront}
-use Rattle.xr_cmd.specs.Words.{IsCommand, IsNoCommand}
+use Rattle.xr_cmd.specs.CommandLine.{IsCommand, IsNoCommand}
 
 -- the number of each status
 abbrev pub code_of : Status → ℕ
@@ -43,31 +45,51 @@ DoneWith left old new (Mkfs uuid) text = WasSeen old.seen (λ _. IsAtRest (fresh
 DoneWith left old new (Show part) text = WasSeen old.seen IsFreshImage × IsTextOfPart part no_maps text
 DoneWith left old new ShowLog text = ShowsLog old.seen text
 
+-- the line that names a block and the number of a rule, or the one for want of memory
+abbrev pub NamesForeign : ℕ → ℕ → Status → List ℕ → Type 0
+NamesForeign block rule Foreign text = text ≡ foreign_text block rule
+NamesForeign block rule Memory text = text ≡ memory_text
+NamesForeign block rule said text = ⊥
+
+-- the answer to an image that was refused by one of the rules, each with its number, or that wasn't read
+abbrev pub RefusesScan : ScanFault → Status → List ℕ → Type 0
+RefusesScan (scan.Magic block) said text = NamesForeign block 3 said text
+RefusesScan (scan.Version block) said text = NamesForeign block 4 said text
+RefusesScan (scan.Length block) said text = NamesForeign block 5 said text
+RefusesScan (scan.Checksum block) said text = NamesForeign block 6 said text
+RefusesScan (scan.Place block) said text = NamesForeign block 7 said text
+RefusesScan (scan.Operation block) said text = NamesForeign block 8 said text
+RefusesScan (scan.ItemType block) said text = NamesForeign block 9 said text
+RefusesScan (scan.Size block) said text = NamesForeign block 10 said text
+RefusesScan (scan.Field block) said text = NamesForeign block 11 said text
+RefusesScan (scan.Header block) said text = NamesForeign block 12 said text
+RefusesScan (scan.DiskFault faults) said text = (said ≡ Disk) × (text ≡ disk_text)
+RefusesScan scan.NoMemory said text = (said ≡ Memory) × (text ≡ memory_text)
+
 -- the answer to a failure: its own line, or the one for want of memory, which a line with a number may meet too
 abbrev pub Refuses : Failure → Status → List ℕ → Type 0
 Refuses (BadLine number) Line text = text ≡ bad_line_text number
 Refuses (BadLine number) Memory text = text ≡ memory_text
 Refuses SourceFailed Source text = text ≡ source_text
 Refuses DiskFailed Disk text = text ≡ disk_text
-Refuses (ForeignBlock block cause) Foreign text = text ≡ foreign_text block (cause_number cause)
-Refuses (ForeignBlock block cause) Memory text = text ≡ memory_text
+Refuses (Image fault) said text = RefusesScan fault said text
 Refuses NoMemory Memory text = text ≡ memory_text
 Refuses _ _ text = ⊥
 
 -- a command had a failure, which this answers
-pub record IsRefused (words : List (List ℕ)) (left : Option (List ℕ)) (AtSource : Type 0) (old new : DiskView) (said : Status) (text : List ℕ) : Type 0 where
+pub record IsRefused (words : List (List ℕ)) (left : Option (List ℕ)) (before after : ℕ) (old new : DiskView) (said : Status) (text : List ℕ) : Type 0 where
   pub command : Command
   pub failure : Failure
   pub asked : IsCommand words command
-  pub has : HasFailure left AtSource old new command failure
+  pub has : HasFailure left before after old new command failure
   pub refuses : Refuses failure said text
 
--- The status and the text for these words, what was left in the source, and the disk before and after, where AtSource
--- says that the source failed.
-abbrev pub Says : List (List ℕ) → Option (List ℕ) → Type 0 → DiskView → DiskView → Status → List ℕ → Type 0
-Says words left AtSource old new Done text = (command : Command) × IsCommand words command × DoneWith left old new command text
-Says words left AtSource old new Words text = IsNoCommand words × (text ≡ words_text)
-Says words left AtSource old new said text = IsRefused words left AtSource old new said text
+-- The status and the text for these words, by what was left in the source, by the count of its faults before and after,
+-- and by the disk before and after.
+abbrev pub Says : List (List ℕ) → Option (List ℕ) → ℕ → ℕ → DiskView → DiskView → Status → List ℕ → Type 0
+Says words left before after old new Done text = (command : Command) × IsCommand words command × DoneWith left old new command text
+Says words left before after old new Words text = IsNoCommand words × (text ≡ words_text)
+Says words left before after old new said text = IsRefused words left before after old new said text
 
 -- the text was written whole and the status is its own, or the sink failed before its end
 abbrev pub Finishes : Option (List ℕ) → Option (List ℕ) → Type 0 → Status → List ℕ → ℕ → Type 0
@@ -75,8 +97,8 @@ Finishes old new Failed said text status =
     ((status ≡ code_of said) × PutsAll old new text) ⊎ ((status ≡ code_of Sink) × Failed × PutsSomeFront old new text)
 
 -- how the program ends: there is one thing to say, and it was written or the sink failed
-pub record Ends (words : List (List ℕ)) (left : Option (List ℕ)) (AtSource : Type 0) (disk disk' : DiskView) (held held' : Option (List ℕ)) (AtSink : Type 0) (status : ℕ) : Type 0 where
+pub record Ends (words : List (List ℕ)) (left : Option (List ℕ)) (before after : ℕ) (disk disk' : DiskView) (held held' : Option (List ℕ)) (AtSink : Type 0) (status : ℕ) : Type 0 where
   pub said : Status
   pub text : List ℕ
-  pub says : Says words left AtSource disk disk' said text
+  pub says : Says words left before after disk disk' said text
   pub finishes : Finishes held held' AtSink said text status

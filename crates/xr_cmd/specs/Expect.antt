@@ -10,8 +10,8 @@ use Rattle.xr_maps.specs.declared.steps.Step.{Step}
 use Rattle.xr_maps.specs.FileMaps.{FileMaps, no_maps}
 use Rattle.xr_maps.specs.Steps.{maps_after}
 use Rattle.xr_maps.specs.Records.{AreExtents, AreReverseRecords, AreReferenceRecords, AreFreeRecords}
-use Rattle.xr_cmd.specs.declared.words.Part.{Part}
-use Rattle.xr_cmd.specs.declared.words.Part.TheVariants.{Files, Free}
+use Rattle.xr_cmd.specs.declared.command_line.Part.{Part}
+use Rattle.xr_cmd.specs.declared.command_line.Part.TheVariants.{Files, Free}
 use Rattle.xr_cmd.specs.RecordText.{extents_text, owners_text, shared_text, free_text}
 use Rattle.xr_cmd.specs.Script.{HasNoBadLine, AreStepsOf}
 

@@ -2,47 +2,19 @@
 use Rattle.std.specs.Prelude.{◌≡◌, ℕ, List, Option, IfSome}
 use Rattle.xr_base.specs.Cause.{Rose}
 use Rattle.xr_disk.specs.Disk.{DiskView}
-use Rattle.xr_commit.specs.declared.fault.ScanFault.{ScanFault}
 use Rattle.xr_commit.specs.declared.fault.ScanFault.TheVariants as scan
 use Rattle.xr_commit.specs.Refusals.{RefusesImage}
-use Rattle.xr_cmd.specs.declared.failure.Cause.{Cause}
-use Rattle.xr_cmd.specs.declared.failure.Cause.TheVariants.{Magic, Version, Length, Checksum, Place, Operation, ItemType, Size, Field, Header}
 use Rattle.xr_cmd.specs.declared.failure.Failure.{Failure}
-use Rattle.xr_cmd.specs.declared.failure.Failure.TheVariants.{BadLine, SourceFailed, DiskFailed, ForeignBlock, NoMemory}
+use Rattle.xr_cmd.specs.declared.failure.Failure.TheVariants.{BadLine, SourceFailed, DiskFailed, Image, NoMemory}
 use Rattle.xr_cmd.specs.declared.script.ScriptFault.{ScriptFault}
 use Rattle.xr_cmd.specs.declared.script.ScriptFault.TheVariants as script
 use Rattle.xr_cmd.specs.declared.streams.ReadFault.{ReadFault}
 use Rattle.xr_cmd.specs.declared.streams.ReadFault.TheVariants as read
-use Rattle.xr_cmd.specs.declared.words.Command.{Command}
-use Rattle.xr_cmd.specs.declared.words.Command.TheVariants.{Expect, Mkfs, Show, ShowLog}
+use Rattle.xr_cmd.specs.declared.command_line.Command.{Command}
+use Rattle.xr_cmd.specs.declared.command_line.Command.TheVariants.{Expect, Mkfs, Show, ShowLog}
 use Rattle.xr_cmd.specs.Fresh.{IsFirstForeign}
 use Rattle.xr_disk.specs.Seen.{WasSeen}
 use Rattle.xr_cmd.specs.Script.{IsFirstBadLine}
-
--- the number of each rule, and the refusal of a log by it
-abbrev pub cause_number : Cause → ℕ
-cause_number Magic = 3
-cause_number Version = 4
-cause_number Length = 5
-cause_number Checksum = 6
-cause_number Place = 7
-cause_number Operation = 8
-cause_number ItemType = 9
-cause_number Size = 10
-cause_number Field = 11
-cause_number Header = 12
-
-abbrev pub scan_fault : Cause → ℕ → ScanFault
-scan_fault Magic block = scan.Magic block
-scan_fault Version block = scan.Version block
-scan_fault Length block = scan.Length block
-scan_fault Checksum block = scan.Checksum block
-scan_fault Place block = scan.Place block
-scan_fault Operation block = scan.Operation block
-scan_fault ItemType block = scan.ItemType block
-scan_fault Size block = scan.Size block
-scan_fault Field block = scan.Field block
-scan_fault Header block = scan.Header block
 
 -- the bytes are all that was left, where the source tells
 abbrev pub WasLeft : Option (List ℕ) → List ℕ → Type 0
@@ -54,20 +26,21 @@ pub record HasBadLine (left : Option (List ℕ)) (number : ℕ) : Type 0 where
   pub was_left : WasLeft left script
   pub first : IsFirstBadLine script number
 
--- why `expect` has no text, where AtSource says that the source failed; want of memory needs no cause
-abbrev pub ExpectFails : Option (List ℕ) → Type 0 → Failure → Type 0
-ExpectFails left AtSource (BadLine number) = HasBadLine left number
-ExpectFails left AtSource SourceFailed = AtSource
-ExpectFails left AtSource DiskFailed = ⊥
-ExpectFails left AtSource (ForeignBlock block cause) = ⊥
-ExpectFails left AtSource NoMemory = Unit {0}
+-- Why `expect` has no text, by the count of the source's faults before and after: a line is bad and the source didn't
+-- fail, or it did. Want of memory needs no cause.
+abbrev pub ExpectFails : Option (List ℕ) → ℕ → ℕ → Failure → Type 0
+ExpectFails left before after (BadLine number) = HasBadLine left number × (after ≡ before)
+ExpectFails left before after SourceFailed = Rose before after
+ExpectFails left before after DiskFailed = ⊥
+ExpectFails left before after (Image fault) = ⊥
+ExpectFails left before after NoMemory = Unit {0}
 
 -- why `mkfs` has none, where AtDisk says that the disk failed
 abbrev pub MkfsFails : Type 0 → Failure → Type 0
 MkfsFails AtDisk (BadLine number) = ⊥
 MkfsFails AtDisk SourceFailed = ⊥
 MkfsFails AtDisk DiskFailed = AtDisk
-MkfsFails AtDisk (ForeignBlock block cause) = ⊥
+MkfsFails AtDisk (Image fault) = ⊥
 MkfsFails AtDisk NoMemory = Unit {0}
 
 -- why `show` has none: until trees are read it takes a fresh image alone
@@ -75,7 +48,8 @@ abbrev pub ShowFails : Option (List ℕ) → Type 0 → Failure → Type 0
 ShowFails seen AtDisk (BadLine number) = ⊥
 ShowFails seen AtDisk SourceFailed = ⊥
 ShowFails seen AtDisk DiskFailed = AtDisk
-ShowFails seen AtDisk (ForeignBlock block cause) = (cause ≡ Header) × WasSeen seen (λ image. IsFirstForeign image block)
+ShowFails seen AtDisk (Image (scan.Header block)) = WasSeen seen (λ image. IsFirstForeign image block)
+ShowFails seen AtDisk (Image fault) = ⊥
 ShowFails seen AtDisk NoMemory = Unit {0}
 
 -- why `show` of the log has none
@@ -83,17 +57,19 @@ abbrev pub ShowLogFails : Option (List ℕ) → Type 0 → Failure → Type 0
 ShowLogFails seen AtDisk (BadLine number) = ⊥
 ShowLogFails seen AtDisk SourceFailed = ⊥
 ShowLogFails seen AtDisk DiskFailed = AtDisk
-ShowLogFails seen AtDisk (ForeignBlock block cause) = WasSeen seen (λ image. RefusesImage image (scan_fault cause block))
+ShowLogFails seen AtDisk (Image (scan.DiskFault faults)) = AtDisk
+ShowLogFails seen AtDisk (Image scan.NoMemory) = Unit {0}
+ShowLogFails seen AtDisk (Image fault) = WasSeen seen (λ image. RefusesImage image fault)
 ShowLogFails seen AtDisk NoMemory = Unit {0}
 
 -- why a command has none
-abbrev pub HasFailure : Option (List ℕ) → Type 0 → DiskView → DiskView → Command → Failure → Type 0
-HasFailure left AtSource old new Expect failure = ExpectFails left AtSource failure
-HasFailure left AtSource old new (Mkfs uuid) failure = MkfsFails (Rose old.faults new.faults) failure
-HasFailure left AtSource old new (Show part) failure = ShowFails old.seen (Rose old.faults new.faults) failure
-HasFailure left AtSource old new ShowLog failure = ShowLogFails old.seen (Rose old.faults new.faults) failure
+abbrev pub HasFailure : Option (List ℕ) → ℕ → ℕ → DiskView → DiskView → Command → Failure → Type 0
+HasFailure left before after old new Expect failure = ExpectFails left before after failure
+HasFailure left before after old new (Mkfs uuid) failure = MkfsFails (Rose old.faults new.faults) failure
+HasFailure left before after old new (Show part) failure = ShowFails old.seen (Rose old.faults new.faults) failure
+HasFailure left before after old new ShowLog failure = ShowLogFails old.seen (Rose old.faults new.faults) failure
 
--- a fault of reading, of parsing or of the log, as the reason
+-- a fault of reading or of parsing, as the reason
 abbrev pub failure_of_read : ReadFault → Failure
 failure_of_read read.Source = SourceFailed
 failure_of_read read.NoMemory = NoMemory
@@ -101,17 +77,3 @@ failure_of_read read.NoMemory = NoMemory
 abbrev pub failure_of_script : ScriptFault → Failure
 failure_of_script (script.Line number) = BadLine number
 failure_of_script script.NoMemory = NoMemory
-
-abbrev pub failure_of_scan : ScanFault → Failure
-failure_of_scan (scan.Magic block) = ForeignBlock block Magic
-failure_of_scan (scan.Version block) = ForeignBlock block Version
-failure_of_scan (scan.Length block) = ForeignBlock block Length
-failure_of_scan (scan.Checksum block) = ForeignBlock block Checksum
-failure_of_scan (scan.Place block) = ForeignBlock block Place
-failure_of_scan (scan.Operation block) = ForeignBlock block Operation
-failure_of_scan (scan.ItemType block) = ForeignBlock block ItemType
-failure_of_scan (scan.Size block) = ForeignBlock block Size
-failure_of_scan (scan.Field block) = ForeignBlock block Field
-failure_of_scan (scan.Header block) = ForeignBlock block Header
-failure_of_scan (scan.DiskFault faults) = DiskFailed
-failure_of_scan scan.NoMemory = NoMemory

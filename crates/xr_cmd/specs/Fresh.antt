@@ -1,8 +1,7 @@
 -- Which images are fresh, and where one stops being so.
-use Rattle.std.specs.Prelude.{◌≡◌, ℕ, ◌+◌, ◌<◌, ◌≤◌, ◌==◌, if◌then◌else◌, Option, Some, List, length, drop}
-use Rattle.byteorder.specs.Endian.{big_number}
+use Rattle.std.specs.Prelude.{◌≡◌, ℕ, ◌+◌, ◌<◌, ◌≤◌, List, length}
 use Rattle.xr_base.specs.Image.{block_of}
-use Rattle.xr_base.specs.declared.geometry.TheConstants.{FIRST_LOG_BLOCK, UUID_BYTES, CYCLES}
+use Rattle.xr_base.specs.declared.geometry.TheConstants.{BLOCKS, UUID_BYTES, CYCLES}
 use Rattle.xr_headers.specs.FreshImage.{fresh_block_of, fresh_image}
 
 -- the blocks from `first` to below `end` are those of a fresh image
@@ -31,9 +30,6 @@ pub record IsFreshUpTo (image : List ℕ) (n : ℕ) : Type 0 where
 
 -- the first block that keeps the image from being fresh
 pub record IsFirstForeign (image : List ℕ) (n : ℕ) : Type 0 where
+  pub within : n < BLOCKS
   pub before : IsFreshUpTo image n
   pub here : ¬ IsFreshUpTo image (n + 1)
-
--- the cycle after a block was read: only the log's first block tells it
-abbrev pub cycle_after : ℕ → List ℕ → ℕ → ℕ
-cycle_after n bytes cycle = if n == FIRST_LOG_BLOCK then big_number 4 (drop 4 bytes) else cycle

@@ -8,7 +8,7 @@ use Rattle.xr_maps.specs.Steps.{Fits}
 use Rattle.xr_cmd.specs.declared.script.ScriptFault.{ScriptFault}
 use Rattle.xr_cmd.specs.declared.script.ScriptFault.TheVariants.{Line, NoMemory}
 use Rattle.xr_cmd.specs.declared.script.TheConstants.{MAX_LINES, MAX_BYTES}
-use Rattle.xr_cmd.specs.Text.{words_of, AreNumbers}
+use Rattle.xr_cmd.specs.Text.{words_of}
 
 -- the word that begins the line of a step, and the numbers after it
 abbrev pub kind_of : Step → List ℕ
@@ -29,11 +29,6 @@ text_of_step step = words_of (kind_of step) (map decimal (numbers_of step))
 pub record LineGives (line : List ℕ) (step : Step) : Type 0 where
   pub fits : Fits step
   pub text : line ≡ text_of_step step
-
--- the words after a line's first word, as a step of the kind that the first word says
-pub record IsStepAfter (kind words : List ℕ) (step : Step) : Type 0 where
-  pub same_kind : kind_of step ≡ kind
-  pub numbers : AreNumbers words (numbers_of step)
 
 -- an empty line, or a comment, which begins with `#`
 abbrev pub IsPassedOver : List ℕ → Type 0

@@ -20,11 +20,6 @@ pub record IsNumber (word : List ℕ) (n : ℕ) : Type 0 where
   pub small : n < 2 ^ 32
   pub printed : word ≡ decimal n
 
--- such a number at the front of a text, and what follows the space after it
-pub record IsNumberBefore (text : List ℕ) (n : ℕ) (rest : List ℕ) : Type 0 where
-  pub small : n < 2 ^ 32
-  pub printed : text ≡ decimal n ++ 32 ∷ rest
-
 -- each is below 2^32
 abbrev pub AreSmall : List ℕ → Type 0
 AreSmall [] = Unit {0}

@@ -11,14 +11,14 @@ ghost use Rattle.xr_cmd.specs.Answer.{ExpectsOf};
 ghost use Rattle.xr_cmd.specs.Failures.{ExpectFails};
 ghost use Rattle.xr_cmd.specs.Expect.{AppendsLists, Expects, IsTextOfMaps, IsTextOfPart, files_text};
 ghost use Rattle.xr_cmd.specs.Script.{IsScriptFault};
-ghost use Rattle.xr_cmd.specs.Streams.{StaysWithin};
+ghost use Rattle.xr_cmd.specs.Streams.{IsReadToEnd, StaysWithin};
 ghost use Rattle.xr_cmd.specs.RecordText.{owners_text, shared_text, free_text};
 
+use crate::command_line::Part;
 use crate::failure::Failure;
 use crate::script::{MAX_BYTES, ScriptFault, parse_steps};
 use crate::streams::read_front;
 use crate::text::{push_extents, push_free, push_owners, push_shared};
-use crate::words::Part;
 use std::alloc::{AllocError, Global};
 use xr_base::geometry::{FILES, GROUPS};
 use xr_base::{FileNo, GroupNo};
@@ -44,7 +44,8 @@ fn push_all_owners(alloc: Global, text: &mut String, maps: &Maps) -> Result<(), 
 }
 
 fn push_all_shared(alloc: Global, text: &mut String, maps: &Maps) -> Result<(), AllocError>
-    ensures { OnOk result (AppendsLists (AreReferenceRecords maps.now) (flat_map shared_text) GROUPS (string_bytes text.old) (string_bytes text.new)) }
+    ensures { OnOk result (AppendsLists (AreReferenceRecords maps.now) (flat_map shared_text) GROUPS
+        (string_bytes text.old) (string_bytes text.new)) }
 {
     for group in 0..GROUPS {
         push_shared(text, &maps.shared(alloc, GroupNo(group))?)?;
@@ -110,8 +111,8 @@ pub fn records_text(alloc: Global, script: &[u8]) -> Result<String, ScriptFault>
 /// Reads a script to its end, or to the first byte past its limit, and gives the text of its records.
 pub fn expect<I: Source>(alloc: Global, source: &mut I) -> Result<String, Failure>
     ensures text { IfOk result (λ text. ExpectsOf (I.left source.old) (string_bytes text)) }
-    ensures end { OnOk result (IfSome (I.left source.old) (λ _. I.left source.new ≡ Some [])) }
-    ensures failure { IfErr result (ExpectFails (I.left source.old) (Rose (I.faults source.old) (I.faults source.new))) }
+    ensures end { OnOk result (IsReadToEnd (I.left source.old) (I.left source.new)) }
+    ensures failure { IfErr result (ExpectFails (I.left source.old) (I.faults source.old) (I.faults source.new)) }
     ensures limit { StaysWithin (Rose (I.faults source.old) (I.faults source.new)) (MAX_BYTES + 1) (I.left source.old) (I.left source.new) }
     ensures count { I.faults source.old ≤ I.faults source.new }
 {

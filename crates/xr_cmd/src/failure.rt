@@ -1,48 +1,13 @@
 //! Why a command has nothing to print but a line that says so.
 ghost use Rattle.std.specs.Prelude.{◌≡◌};
-ghost use Rattle.xr_cmd.specs.declared.failure.Failure.TheVariants.{DiskFailed, NoMemory};
-ghost use Rattle.xr_cmd.specs.Failures.{failure_of_read, failure_of_scan, failure_of_script, cause_number};
+ghost use Rattle.xr_cmd.specs.declared.failure.Failure.TheVariants.{DiskFailed, Image, NoMemory};
+ghost use Rattle.xr_cmd.specs.Failures.{failure_of_read, failure_of_script};
 
 use crate::script::ScriptFault;
 use crate::streams::ReadFault;
 use std::alloc::AllocError;
 use xr_base::Fault;
 use xr_commit::ScanFault;
-
-/// Which rule a block of an image breaks.
-#[derive(Clone, Copy, Debug, PartialEq, Eq)]
-pub enum Cause {
-    Magic,
-    Version,
-    Length,
-    Checksum,
-    Place,
-    Operation,
-    ItemType,
-    Size,
-    Field,
-    Header,
-}
-
-impl Cause {
-    /// The number by which it is printed.
-    pub fn number(self) -> u32
-        ensures { result ≡ cause_number self }
-    {
-        match self {
-            Cause::Magic => 3,
-            Cause::Version => 4,
-            Cause::Length => 5,
-            Cause::Checksum => 6,
-            Cause::Place => 7,
-            Cause::Operation => 8,
-            Cause::ItemType => 9,
-            Cause::Size => 10,
-            Cause::Field => 11,
-            Cause::Header => 12,
-        }
-    }
-}
 
 /// Why there is no other text.
 #[derive(Clone, Copy, Debug, PartialEq, Eq)]
@@ -53,8 +18,8 @@ pub enum Failure {
     SourceFailed,
     /// The disk failed.
     DiskFailed,
-    /// This block of the image is the first that isn't one of the program's, by this rule.
-    ForeignBlock { block: u32, cause: Cause },
+    /// The image isn't one of the program's, or it wasn't read.
+    Image(ScanFault),
     /// Want of memory.
     NoMemory,
 }
@@ -82,24 +47,10 @@ impl From<ScriptFault> for Failure {
 }
 
 impl From<ScanFault> for Failure {
-    ghost from_gives = { λ fault failure. failure ≡ failure_of_scan fault };
+    ghost from_gives = { λ fault failure. failure ≡ Image fault };
 
     fn from(fault: ScanFault) -> Failure {
-        let (block, cause) = match fault {
-            ScanFault::Magic { block } => (block, Cause::Magic),
-            ScanFault::Version { block } => (block, Cause::Version),
-            ScanFault::Length { block } => (block, Cause::Length),
-            ScanFault::Checksum { block } => (block, Cause::Checksum),
-            ScanFault::Place { block } => (block, Cause::Place),
-            ScanFault::Operation { block } => (block, Cause::Operation),
-            ScanFault::ItemType { block } => (block, Cause::ItemType),
-            ScanFault::Size { block } => (block, Cause::Size),
-            ScanFault::Field { block } => (block, Cause::Field),
-            ScanFault::Header { block } => (block, Cause::Header),
-            ScanFault::DiskFault { .. } => return Failure::DiskFailed,
-            ScanFault::NoMemory => return Failure::NoMemory,
-        };
-        Failure::ForeignBlock { block, cause }
+        Failure::Image(fault)
     }
 }
 

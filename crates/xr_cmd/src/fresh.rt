@@ -1,11 +1,11 @@
 //! Whether a disk holds a fresh image, and where it stops being one.
-ghost use Rattle.std.specs.Prelude.{◌≡◌, ◌*◌, ◌<◌, ◌≤◌, ◌↔◌, ℕ, Some, List, length, IsTrue, OnOk, IfOk, MatchOption};
+ghost use Rattle.std.specs.Prelude.{◌≡◌, ◌+◌, ◌*◌, ◌<◌, ◌≤◌, ◌↔◌, ℕ, Some, List, length, IsTrue, OnOk, IfOk};
 ghost use Rattle.xr_base.specs.Cause.{HasCause};
 ghost use Rattle.xr_base.specs.Image.{block_of};
 ghost use Rattle.xr_base.specs.declared.geometry.TheConstants.{BLOCK_BYTES, BLOCKS, UUID_BYTES, CYCLES};
 ghost use Rattle.xr_disk.specs.Disk.{OnlyReads};
 ghost use Rattle.xr_headers.specs.FreshImage.{fresh_block_of};
-ghost use Rattle.xr_cmd.specs.Fresh.{IsFirstForeign, IsFreshImage, cycle_after as new_cycle};
+ghost use Rattle.xr_cmd.specs.FreshSearch.{IsForeignSearch, cycle_after as new_cycle};
 ghost use Rattle.xr_disk.specs.Seen.{WasSeen};
 
 use byteorder::{BigEndian, ByteOrder};
@@ -21,6 +21,7 @@ fn read_block<D: Disk>(disk: &mut D, block: u32, out: &mut [u8]) -> Result<(), F
     requires room { length out.old ≡ BLOCK_BYTES }
     ensures bytes { OnOk result (WasSeen (D.view disk.old).seen (λ image. out.new ≡ block_of image block)) }
     ensures reads { OnlyReads (D.view disk.old) (D.view disk.new) }
+    ensures clock { (D.view disk.new).moment ≤ (D.view disk.old).moment + 1 }
     ensures cause { HasCause result (D.view disk.old).faults (D.view disk.new).faults }
 {
     disk.read(block * BLOCK_SECTORS, out)
@@ -55,9 +56,10 @@ fn is_fresh(bytes: &[u8], block: u32, uuid: &Uuid, cycle: u32) -> bool
 
 /// The first block after the superblock that isn't that of a fresh image with this identifier.
 fn first_foreign_after<D: Disk>(disk: &mut D, uuid: &Uuid) -> Result<Option<u32>, Fault>
-    ensures found { IfOk result (λ found. WasSeen (D.view disk.old).seen (λ image. length uuid.now ≡ UUID_BYTES → block_of image 0 ≡ fresh_block_of uuid.now 1 0
-        → MatchOption found (IsFreshImage image) (IsFirstForeign image))) }
+    ensures found { IfOk result (λ found. WasSeen (D.view disk.old).seen (λ image. length uuid.now ≡ UUID_BYTES
+        → block_of image 0 ≡ fresh_block_of uuid.now 1 0 → IsForeignSearch image found)) }
     ensures reads { OnlyReads (D.view disk.old) (D.view disk.new) }
+    ensures clock { (D.view disk.new).moment + 1 ≤ (D.view disk.old).moment + BLOCKS }
     ensures cause { HasCause result (D.view disk.old).faults (D.view disk.new).faults }
 {
     let mut bytes = [0; BLOCK_BYTES];
@@ -75,8 +77,9 @@ fn first_foreign_after<D: Disk>(disk: &mut D, uuid: &Uuid) -> Result<Option<u32>
 
 /// The first block that keeps the disk's image from being fresh. Each block is read once.
 pub fn first_foreign<D: Disk>(disk: &mut D) -> Result<Option<u32>, Fault>
-    ensures found { IfOk result (λ found. WasSeen (D.view disk.old).seen (λ image. MatchOption found (IsFreshImage image) (IsFirstForeign image))) }
+    ensures found { IfOk result (λ found. WasSeen (D.view disk.old).seen (λ image. IsForeignSearch image found)) }
     ensures reads { OnlyReads (D.view disk.old) (D.view disk.new) }
+    ensures clock { (D.view disk.new).moment ≤ (D.view disk.old).moment + BLOCKS }
     ensures cause { HasCause result (D.view disk.old).faults (D.view disk.new).faults }
 {
     let mut block = [0; BLOCK_BYTES];

@@ -3,7 +3,8 @@ ghost use Rattle.std.specs.Prelude.{◌≡◌, ◌+◌, ◌++◌, OnOk, length};
 ghost use Rattle.std.specs.String.{string_bytes};
 ghost use Rattle.xr_base.specs.declared.geometry.TheConstants.{FIRST_INODE};
 ghost use Rattle.xr_commit.specs.ItemsOf.{items_in};
-ghost use Rattle.xr_cmd.specs.LogText.{done_line, entries_text, entry_text, head_line, heads_text, item_line, items_text, mapping_line, pending_line, work_line};
+ghost use Rattle.xr_cmd.specs.LogText.{done_line, item_line, items_text, mapping_line, work_line};
+ghost use Rattle.xr_cmd.specs.LogText.{entries_text, entry_text, head_line, heads_text, pending_line};
 
 use std::alloc::AllocError;
 use std::fmt::Write;

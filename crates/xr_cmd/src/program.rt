@@ -1,32 +1,37 @@
 //! The whole program, over any source, sink and disk.
-ghost use Rattle.std.specs.Prelude.{◌≡◌, ◌+◌, ◌≤◌, [], None, Some, IfSome, IfOk, IfErr, OnOk, OnErr};
+ghost use Rattle.std.specs.Prelude.{◌≡◌, ◌+◌, ◌≤◌, ℕ, List, None, Err, IfOk, IfErr, OnOk, OnErr};
 ghost use Rattle.std.specs.Cow.{cow_str_bytes};
 ghost use Rattle.std.specs.String.{string_bytes};
 ghost use Rattle.xr_base.specs.Cause.{Rose};
+ghost use Rattle.xr_base.specs.declared.geometry.TheConstants.{BLOCKS};
 ghost use Rattle.xr_disk.specs.Disk.{OnlyReads};
-ghost use Rattle.xr_cmd.specs.Answer.{code_of, DoneWith, Refuses, Says, Finishes, Ends};
+ghost use Rattle.xr_cmd.specs.Answer.{code_of, DoneWith, NamesForeign, Refuses, RefusesScan, Says, Finishes, Ends};
+ghost use Rattle.xr_cmd.specs.declared.failure.Failure.TheVariants.{NoMemory};
 ghost use Rattle.xr_cmd.specs.declared.program.Status.TheVariants.{Done, Memory};
 ghost use Rattle.xr_cmd.specs.declared.script.TheConstants.{MAX_BYTES};
-ghost use Rattle.xr_cmd.specs.declared.words.Command.TheVariants.{Expect, Mkfs, Show};
+ghost use Rattle.xr_cmd.specs.declared.command_line.Command.TheVariants.{Expect, Mkfs, Show};
 ghost use Rattle.xr_cmd.specs.Failures.{HasFailure, MkfsFails, ShowFails};
+ghost use Rattle.xr_cmd.specs.Limits.{HasLimits};
+ghost use Rattle.xr_cmd.specs.Mkfs.{LeavesNoHalves};
 ghost use Rattle.xr_cmd.specs.RecordText.{memory_text};
-ghost use Rattle.xr_cmd.specs.Streams.{StaysWithin};
-ghost use Rattle.xr_cmd.specs.Words.{AsksOnly, IsCommand, ReadsDisk, ReadsNoScript, UsesNoDisk, texts_of};
+ghost use Rattle.xr_cmd.specs.Streams.{IsReadToEnd, StaysWithin};
+ghost use Rattle.xr_cmd.specs.CommandLine.{AsksOnly, FormatsDisk, IsCommand, ReadsDisk, ReadsNoScript, UsesNoDisk, texts_of};
 
+use crate::command_line::{Command, Part, command_of};
 use crate::expect::{expect, part_text};
-use crate::failure::{Cause, Failure};
+use crate::failure::Failure;
 use crate::fresh::first_foreign;
-use crate::making::mkfs;
+use crate::make_fresh::mkfs;
 use crate::show_log::show_log;
 use crate::streams::put_all;
 use crate::text::{
     DISK_LINE, MEMORY_LINE, SOURCE_LINE, WORDS_LINE, bad_line, foreign_line, made_line,
 };
-use crate::words::{Command, Part, command_of};
 use std::alloc::{AllocError, Global};
 use std::borrow::CowStr;
 use std::thread::Threads;
 use uuid::Uuid;
+use xr_commit::ScanFault;
 use xr_disk::{Disk, Sink, Source};
 use xr_maps::Maps;
 
@@ -103,6 +108,33 @@ fn written(said: Status, line: Result<String, AllocError>) -> Answer
     }
 }
 
+/// The answer to an image with a block that isn't one of the program's, by the number of the rule that it breaks.
+fn foreign(alloc: Global, block: u32, rule: u32) -> Answer
+    ensures { NamesForeign block rule result.said (cow_str_bytes result.text) }
+{
+    written(Status::Foreign, foreign_line(alloc, block, rule))
+}
+
+/// The answer to an image that was refused, or that wasn't read.
+fn image_refusal(alloc: Global, fault: ScanFault) -> Answer
+    ensures { RefusesScan fault result.said (cow_str_bytes result.text) }
+{
+    match fault {
+        ScanFault::Magic { block } => foreign(alloc, block, 3),
+        ScanFault::Version { block } => foreign(alloc, block, 4),
+        ScanFault::Length { block } => foreign(alloc, block, 5),
+        ScanFault::Checksum { block } => foreign(alloc, block, 6),
+        ScanFault::Place { block } => foreign(alloc, block, 7),
+        ScanFault::Operation { block } => foreign(alloc, block, 8),
+        ScanFault::ItemType { block } => foreign(alloc, block, 9),
+        ScanFault::Size { block } => foreign(alloc, block, 10),
+        ScanFault::Field { block } => foreign(alloc, block, 11),
+        ScanFault::Header { block } => foreign(alloc, block, 12),
+        ScanFault::DiskFault { .. } => fixed(Status::Disk, DISK_LINE),
+        ScanFault::NoMemory => fixed(Status::Memory, MEMORY_LINE),
+    }
+}
+
 /// The answer to a failure. A line with a number needs memory.
 fn refusal(alloc: Global, failure: Failure) -> Answer
     ensures { Refuses failure result.said (cow_str_bytes result.text) }
@@ -111,9 +143,7 @@ fn refusal(alloc: Global, failure: Failure) -> Answer
         Failure::BadLine(number) => written(Status::Line, bad_line(alloc, number)),
         Failure::SourceFailed => fixed(Status::Source, SOURCE_LINE),
         Failure::DiskFailed => fixed(Status::Disk, DISK_LINE),
-        Failure::ForeignBlock { block, cause } => {
-            written(Status::Foreign, foreign_line(alloc, block, cause.number()))
-        }
+        Failure::Image(fault) => image_refusal(alloc, fault),
         Failure::NoMemory => fixed(Status::Memory, MEMORY_LINE),
     }
 }
@@ -122,6 +152,8 @@ fn refusal(alloc: Global, failure: Failure) -> Answer
 fn format<D: Disk>(alloc: Global, disk: &mut D, uuid: &Uuid) -> Result<String, Failure>
     ensures done { IfOk result (λ text. DoneWith None (D.view disk.old) (D.view disk.new) (Mkfs uuid.now) (string_bytes text)) }
     ensures failure { IfErr result (MkfsFails (Rose (D.view disk.old).faults (D.view disk.new).faults)) }
+    ensures alone { result ≡ Err NoMemory → disk.new ≡ disk.old }
+    ensures crash { LeavesNoHalves uuid.now FIRST_CYCLE (D.view disk.old) (D.view disk.new) }
     ensures count { (D.view disk.old).faults ≤ (D.view disk.new).faults }
 {
     let line = made_line(alloc, uuid)?;
@@ -134,13 +166,11 @@ fn show<D: Disk>(alloc: Global, disk: &mut D, part: Part) -> Result<String, Fail
     ensures done { IfOk result (λ text. DoneWith None (D.view disk.old) (D.view disk.new) (Show part) (string_bytes text)) }
     ensures failure { IfErr result (ShowFails (D.view disk.old).seen (Rose (D.view disk.old).faults (D.view disk.new).faults)) }
     ensures reads { OnlyReads (D.view disk.old) (D.view disk.new) }
+    ensures clock { (D.view disk.new).moment ≤ (D.view disk.old).moment + BLOCKS }
     ensures count { (D.view disk.old).faults ≤ (D.view disk.new).faults }
 {
     match first_foreign(disk)? {
-        Some(block) => {
-            let cause = Cause::Header;
-            Err(Failure::ForeignBlock { block, cause })
-        }
+        Some(block) => Err(Failure::Image(ScanFault::Header { block })),
         None => Ok(part_text(alloc, &Maps::new(alloc)?, part)?),
     }
 }
@@ -153,12 +183,16 @@ fn perform<D: Disk, I: Source>(
     disk: &mut D,
 ) -> Result<String, Failure>
     ensures done { IfOk result (λ text. DoneWith (I.left script.old) (D.view disk.old) (D.view disk.new) command.now (string_bytes text)) }
-    ensures failure { IfErr result (HasFailure (I.left script.old) (Rose (I.faults script.old) (I.faults script.new)) (D.view disk.old) (D.view disk.new) command.now) }
-    ensures read_to_end { command.now ≡ Expect → OnOk result (IfSome (I.left script.old) (λ _. I.left script.new ≡ Some [])) }
+    ensures failure { IfErr result (HasFailure (I.left script.old) (I.faults script.old) (I.faults script.new)
+        (D.view disk.old) (D.view disk.new) command.now) }
+    ensures read_to_end { command.now ≡ Expect → OnOk result (IsReadToEnd (I.left script.old) (I.left script.new)) }
     ensures limit { StaysWithin (Rose (I.faults script.old) (I.faults script.new)) (MAX_BYTES + 1) (I.left script.old) (I.left script.new) }
     ensures unread { ReadsNoScript command.now → script.new ≡ script.old }
     ensures untouched { UsesNoDisk command.now → disk.new ≡ disk.old }
     ensures reads { ReadsDisk command.now → OnlyReads (D.view disk.old) (D.view disk.new) }
+    ensures clock { ReadsDisk command.now → (D.view disk.new).moment ≤ (D.view disk.old).moment + BLOCKS }
+    ensures alone { FormatsDisk command.now → result ≡ Err NoMemory → disk.new ≡ disk.old }
+    ensures crash { (uuid : List ℕ) → command.now ≡ Mkfs uuid → LeavesNoHalves uuid FIRST_CYCLE (D.view disk.old) (D.view disk.new) }
     ensures source_count { I.faults script.old ≤ I.faults script.new }
     ensures disk_count { (D.view disk.old).faults ≤ (D.view disk.new).faults }
 {
@@ -176,13 +210,17 @@ fn answer_to<D: Disk, I: Source>(
     script: &mut I,
     disk: &mut D,
 ) -> Answer
-    ensures says { Says (texts_of words.now) (I.left script.old) (Rose (I.faults script.old) (I.faults script.new))
+    ensures says { Says (texts_of words.now) (I.left script.old) (I.faults script.old) (I.faults script.new)
         (D.view disk.old) (D.view disk.new) result.said (cow_str_bytes result.text) }
-    ensures read_to_end { IsCommand (texts_of words.now) Expect → result.said ≡ Done → IfSome (I.left script.old) (λ _. I.left script.new ≡ Some []) }
+    ensures read_to_end { IsCommand (texts_of words.now) Expect → result.said ≡ Done → IsReadToEnd (I.left script.old) (I.left script.new) }
     ensures limit { StaysWithin (Rose (I.faults script.old) (I.faults script.new)) (MAX_BYTES + 1) (I.left script.old) (I.left script.new) }
     ensures unread { AsksOnly (texts_of words.now) ReadsNoScript → script.new ≡ script.old }
     ensures untouched { AsksOnly (texts_of words.now) UsesNoDisk → disk.new ≡ disk.old }
     ensures reads { AsksOnly (texts_of words.now) ReadsDisk → OnlyReads (D.view disk.old) (D.view disk.new) }
+    ensures clock { AsksOnly (texts_of words.now) ReadsDisk → (D.view disk.new).moment ≤ (D.view disk.old).moment + BLOCKS }
+    ensures alone { AsksOnly (texts_of words.now) FormatsDisk → result.said ≡ Memory → disk.new ≡ disk.old }
+    ensures crash { (uuid : List ℕ) → AsksOnly (texts_of words.now) (λ command. command ≡ Mkfs uuid)
+        → LeavesNoHalves uuid FIRST_CYCLE (D.view disk.old) (D.view disk.new) }
     ensures source_count { I.faults script.old ≤ I.faults script.new }
     ensures disk_count { (D.view disk.old).faults ≤ (D.view disk.new).faults }
 {
@@ -223,15 +261,19 @@ pub fn xreflink<R: Threads + Sync, D: Disk + Send, I: Source, O: Sink>(
     out: &mut O,
     mut disk: D,
 ) -> Ended<D>
-    ensures ends { Ends (texts_of words.now) (I.left script.old) (Rose (I.faults script.old) (I.faults script.new))
+    ensures ends { Ends (texts_of words.now) (I.left script.old) (I.faults script.old) (I.faults script.new)
         (D.view disk) (D.view result.disk) (O.held out.old) (O.held out.new) (Rose (O.faults out.old) (O.faults out.new)) result.status }
 
     // What the source and the disk are left as.
-    ensures read_to_end { IsCommand (texts_of words.now) Expect → result.status ≡ 0 → IfSome (I.left script.old) (λ _. I.left script.new ≡ Some []) }
+    ensures read_to_end { IsCommand (texts_of words.now) Expect → result.status ≡ 0 → IsReadToEnd (I.left script.old) (I.left script.new) }
     ensures limit { StaysWithin (Rose (I.faults script.old) (I.faults script.new)) (MAX_BYTES + 1) (I.left script.old) (I.left script.new) }
     ensures unread { AsksOnly (texts_of words.now) ReadsNoScript → script.new ≡ script.old }
     ensures untouched { AsksOnly (texts_of words.now) UsesNoDisk → result.disk ≡ disk }
     ensures reads { AsksOnly (texts_of words.now) ReadsDisk → OnlyReads (D.view disk) (D.view result.disk) }
+    ensures clock { AsksOnly (texts_of words.now) ReadsDisk → (D.view result.disk).moment ≤ (D.view disk).moment + BLOCKS }
+    ensures alone { AsksOnly (texts_of words.now) FormatsDisk → result.status ≡ 8 → result.disk ≡ disk }
+    ensures crash { (uuid : List ℕ) → AsksOnly (texts_of words.now) (λ command. command ≡ Mkfs uuid)
+        → LeavesNoHalves uuid FIRST_CYCLE (D.view disk) (D.view result.disk) }
 
     // Faults are counted, and no count falls.
     ensures source_count { I.faults script.old ≤ I.faults script.new }
@@ -244,6 +286,12 @@ pub fn xreflink<R: Threads + Sync, D: Disk + Send, I: Source, O: Sink>(
         disk,
     }
 }
+
+/// Each limit and the first cycle are those that users are promised. So whatever is defined by a constant is defined by
+/// that number.
+pub fn limits_are_fixed()
+    ensures { HasLimits }
+{}
 
 /// Says that there is no memory, where the words couldn't be read for want of it, and gives the status.
 pub fn without_memory<O: Sink>(out: &mut O) -> u8

@@ -3,7 +3,8 @@ ghost use Rattle.std.specs.Prelude.{◌≡◌, ◌↔◌, ◌==◌, codes, posit
 ghost use Rattle.std.specs.List.{before_first, after_first};
 ghost use Rattle.xr_maps.specs.declared.steps.Step.{Step};
 ghost use Rattle.xr_cmd.specs.declared.script.ScriptFault.TheVariants.{NoMemory};
-ghost use Rattle.xr_cmd.specs.Script.{LineGives, IsPassedOver, IsStepAfter, AreStepsOf, HasNoBadLine, IsScriptFault};
+ghost use Rattle.xr_cmd.specs.LineParts.{IsStepAfter};
+ghost use Rattle.xr_cmd.specs.Script.{LineGives, IsPassedOver, AreStepsOf, HasNoBadLine, IsScriptFault};
 
 use crate::fields::{field, number};
 use std::alloc::{AllocError, AllocFailed, Global};

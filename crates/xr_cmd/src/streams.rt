@@ -70,6 +70,7 @@ pub fn read_front<S: Source>(
     ensures limit { StaysWithin (Rose (S.faults source.old) (S.faults source.new)) most (S.left source.old) (S.left source.new) }
     ensures kept { S.faults source.old ≤ S.faults source.new }
     ensures cause { result ≡ Err ReadFault.Source → Rose (S.faults source.old) (S.faults source.new) }
+    ensures uncounted { OnOk result (S.faults source.new ≡ S.faults source.old) }
 {
     let mut storage = new_buffer(alloc)?;
     let buffer = storage.as_mut_slice();

@@ -9,7 +9,7 @@ use Rattle.xr_record.specs.Record.{IsSealed, sectors_of, zeros}
 use Rattle.xr_record.specs.Unsealing.{body_in}
 use Rattle.xr_record.specs.SealedRecordLaws.{sealed_body}
 use Rattle.xr_commit.specs.LogRecords.{LogRecord, StandsAt, bytes_at}
-use Rattle.xr_commit.specs.Walking.{IsInLog}
+use Rattle.xr_commit.specs.ReadBodies.{IsInLog}
 
 body_first : (bytes : List ℕ) (head : Head) (body : List ℕ) → IsSealed bytes head body → take head.len (body_in head.len bytes) ≡ body
 body_first bytes head body s =
@@ -26,8 +26,8 @@ one_in log head found body r stands same is =
     one_body (bytes_at log head.lsn.sector) r.head body r.body (subst (λ (h : Head). IsSealed (bytes_at log head.lsn.sector) h body) same stands.sealed) is.stands.sealed
 
 -- as the code takes it
-pub body_taken : (len : ℕ) (room : List ℕ) → take (512 + len - 512) (drop 512 room) ≡ part SECTOR_BYTES len room
-body_taken len room = ap (λ (n : ℕ). take n (drop 512 room)) (let e : 512 + len - 512 ≡ len = omega arith in e)
+pub body_taken : (len : ℕ) (scratch : List ℕ) → take (512 + len - 512) (drop 512 scratch) ≡ part SECTOR_BYTES len scratch
+body_taken len scratch = ap (λ (n : ℕ). take n (drop 512 scratch)) (let e : 512 + len - 512 ≡ len = omega arith in e)
 
 -- and it isn't too long
 pub body_fits : (log : List ℕ) (head : Head) (r : LogRecord) (body : List ℕ) → IsInLog log head r → body ≡ r.body → length body ≤ MAX_BODY_BYTES

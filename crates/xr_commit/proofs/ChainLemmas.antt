@@ -9,7 +9,7 @@ use Rattle.xr_record.specs.declared.head.Lsn.{Lsn}
 use Rattle.xr_commit.specs.declared.fault.ScanFault.{ScanFault}
 use Rattle.xr_commit.specs.declared.fault.ScanFault.TheVariants.{Magic, Version, Length, Checksum, Place, Operation, ItemType, Size, Field, Header, DiskFault, NoMemory}
 use Rattle.xr_commit.specs.Chain.{IsTrail, IsPreviousRecord}
-use Rattle.xr_commit.specs.Following.{HasChain, HasNoChain, IsHeaderBefore}
+use Rattle.xr_commit.specs.ChainHeaders.{HasChain, HasNoChain, IsHeaderBefore}
 use Rattle.xr_commit.specs.LogRecords.{LogRecord, heads_of}
 use Rattle.xr_commit.specs.Refusals.{LeadsNowhere, OrNoMemory}
 
@@ -31,7 +31,7 @@ pub told_not_apart : (xs ys : List ℕ) (r : Bool) → r ≡ not (bytes_eq xs ys
 told_not_apart xs ys r is equal = (bytes_eq-Decides xs ys).0 (not_false (bytes_eq xs ys) (sym is ∙ equal))
 
 -- two places in the log that are told apart, or not
-lsn_is : (a b c d : ℕ) → a ≡ b → c ≡ d → ◌≡◌ {A = Lsn} (record { cycle = a; sector = c }) (record { cycle = b; sector = d })
+pub lsn_is : (a b c d : ℕ) → a ≡ b → c ≡ d → ◌≡◌ {A = Lsn} (record { cycle = a; sector = c }) (record { cycle = b; sector = d })
 lsn_is a b c d e f = cc
 
 pub lsn_same : (a b : Lsn) (r : Bool) → r ≡ not (eqb a.cycle b.cycle && eqb a.sector b.sector) → r ≡ false → a ≡ b

@@ -36,10 +36,10 @@ sector_copied log copy sector long within is =
     let f : length (drop (SECTOR_BYTES * sector) log) ≡ length log - SECTOR_BYTES * sector = length-drop (SECTOR_BYTES * sector) log in
     omega arith
 
--- behind the first sector stands the body
-body_behind : (first body padding rest after : List ℕ) (len : ℕ) → length first ≡ SECTOR_BYTES → length body ≡ len
+-- after the first sector stands the body
+body_after : (first body padding rest after : List ℕ) (len : ℕ) → length first ≡ SECTOR_BYTES → length body ≡ len
     → part SECTOR_BYTES len ((first ++ (body ++ padding) ++ rest) ++ after) ≡ body
-body_behind first body padding rest after len sector whole =
+body_after first body padding rest after len sector whole =
     let tail : List ℕ = padding ++ (rest ++ after) in
     let joined : (first ++ (body ++ padding) ++ rest) ++ after ≡ first ++ (body ++ tail) = simp append_assoc in
     let past : drop SECTOR_BYTES (first ++ (body ++ tail)) ≡ body ++ tail =
@@ -52,11 +52,11 @@ pub opened_stands : (log copy new after : List ℕ) (sector : ℕ) (result : Res
 opened_stands log copy new after sector (Err e) is room opened = tt
 opened_stands log copy new after sector (Ok head) is room opened =
     let first : length (take SECTOR_BYTES copy) ≡ SECTOR_BYTES = length-take-le SECTOR_BYTES copy room in
-    let behind : part SECTOR_BYTES head.len (new ++ after) ≡ opened.body =
+    let body_is : part SECTOR_BYTES head.len (new ++ after) ≡ opened.body =
     ap (λ (xs : List ℕ). part SECTOR_BYTES head.len (xs ++ after)) opened.new_is
-    ∙ body_behind (take SECTOR_BYTES copy) opened.body _ _ after head.len first opened.record_is.length_is in
+    ∙ body_after (take SECTOR_BYTES copy) opened.body _ _ after head.len first opened.record_is.length_is in
     record {
-      sealed = subst (λ (b : List ℕ). IsSealed (bytes_at log sector) head b) (sym behind)
+      sealed = subst (λ (b : List ℕ). IsSealed (bytes_at log sector) head b) (sym body_is)
           (subst (λ (xs : List ℕ). IsSealed xs head opened.body) is opened.record_is);
       here = opened.here;
     }

@@ -8,12 +8,14 @@ use Rattle.xr_record.specs.declared.entry.Entry.{Entry}
 use Rattle.xr_record.specs.declared.entry.Entry.TheVariants.{Trans, Unmount}
 use Rattle.xr_record.specs.Stream.{IsPiece, Piece, Transaction, Unmounting, entry}
 use Rattle.xr_commit.specs.declared.fault.ScanFault.{ScanFault}
-use Rattle.xr_commit.specs.declared.items.Breach.{Breach}
+use Rattle.xr_items.specs.declared.item.ItemFault.{ItemFault}
 use Rattle.xr_commit.specs.Entries.{HasEntries}
-use Rattle.xr_commit.specs.LiveItems.{BreaksItems, HaveGood, fault_at, home_of_region, regions_in}
+use Rattle.xr_commit.specs.BadItems.{BreaksItems, refusal_at}
+use Rattle.xr_commit.specs.GoodItems.{EntriesAreGood}
+use Rattle.xr_commit.specs.RegionHomes.{home_of_region, regions_in}
 use Rattle.xr_commit.specs.LoggedItems.{regions_of}
 use Rattle.xr_commit.specs.LogRecords.{LogRecord}
-use Rattle.xr_commit.specs.Testing.{IsBadEntry, HasWholeItems}
+use Rattle.xr_commit.specs.CheckItems.{IsBadEntry, HasWholeItems}
 use Rattle.xr_commit.proofs.RegionCountLemmas.{region_begins}
 
 piece_parted : (p : Piece) → IsPiece p → HasWholeItems (entry p)
@@ -31,8 +33,8 @@ parted_at records entries i e said within is =
     subst HasWholeItems (sym (is ∙ ap (λ (es : List Entry). get_or es i e) said.entries_are))
     (pieces_parted said.pieces i e said.stream.each (subst (λ (es : List Entry). i < length es) said.entries_are within))
 
-good_more : (uuid : List ℕ) (last mid last' : ℕ) (xs ys : List Entry) → HaveGood uuid last xs mid → HaveGood uuid mid ys last' → HaveGood uuid last (xs ++ ys) last'
-good_more uuid last mid last' [] ys before after = subst (λ (m : ℕ). HaveGood uuid m ys last') before after
+good_more : (uuid : List ℕ) (last mid last' : ℕ) (xs ys : List Entry) → EntriesAreGood uuid last xs mid → EntriesAreGood uuid mid ys last' → EntriesAreGood uuid last (xs ++ ys) last'
+good_more uuid last mid last' [] ys before after = subst (λ (m : ℕ). EntriesAreGood uuid m ys last') before after
 good_more uuid last mid last' (Unmount ∷ xs) ys before after = good_more uuid last mid last' xs ys before after
 good_more uuid last mid last' (Trans tid regions ∷ xs) ys before after = (before.0, before.1, good_more uuid before.0 mid last' xs ys before.2 after)
 
@@ -43,7 +45,7 @@ regions_more (Trans tid regions ∷ xs) ys = let e = regions_more xs ys in omega
 
 -- the entries before a place have good items, and so many regions
 pub record IsItemLoop (uuid : List ℕ) (entries : List Entry) (i last before : ℕ) : Type 0 where
-  pub good : HaveGood uuid 0 (take i entries) last
+  pub good : EntriesAreGood uuid 0 (take i entries) last
   pub counted : before ≡ regions_in (take i entries)
   pub few : before ≤ i * 2 ^ 64
 
@@ -51,43 +53,43 @@ pub loop_begins : (uuid : List ℕ) (entries : List Entry) → IsItemLoop uuid e
 loop_begins uuid entries = record { good = refl; counted = refl; few = omega arith }
 
 pub loop_on : (uuid : List ℕ) (entries : List Entry) (i last before n last' : ℕ) (e : Entry) → IsItemLoop uuid entries i last before → i < length entries → e ≡ get_or entries i e
-    → HaveGood uuid last (e ∷ []) last' → n ≡ regions_in (e ∷ []) → n < 2 ^ 64 → IsItemLoop uuid entries (i + 1) last' (before + n)
+    → EntriesAreGood uuid last (e ∷ []) last' → n ≡ regions_in (e ∷ []) → n < 2 ^ 64 → IsItemLoop uuid entries (i + 1) last' (before + n)
 loop_on uuid entries i last before n last' e l within is good number small =
     let more : take (i + 1) entries ≡ take i entries ++ e ∷ [] = take_more entries i e within ∙ ap (λ (x : Entry). take i entries ++ x ∷ []) (sym is) in
     record {
-      good = subst (λ (es : List Entry). HaveGood uuid 0 es last') (sym more) (good_more uuid 0 last last' (take i entries) (e ∷ []) l.good good);
+      good = subst (λ (es : List Entry). EntriesAreGood uuid 0 es last') (sym more) (good_more uuid 0 last last' (take i entries) (e ∷ []) l.good good);
       counted = let s = regions_more (take i entries) (e ∷ []) in omega (arith, l.counted, number, s, ap regions_in more);
       few = omega (arith, l.few, small);
     }
 
-pub loop_ends : (uuid : List ℕ) (entries : List Entry) (i last before : ℕ) → IsItemLoop uuid entries i last before → length entries ≤ i → (top : ℕ) × HaveGood uuid 0 entries top
-loop_ends uuid entries i last before l over = (last, subst (λ (es : List Entry). HaveGood uuid 0 es last) (take_all i entries over) l.good)
+pub loop_ends : (uuid : List ℕ) (entries : List Entry) (i last before : ℕ) → IsItemLoop uuid entries i last before → length entries ≤ i → (top : ℕ) × EntriesAreGood uuid 0 entries top
+loop_ends uuid entries i last before l over = (last, subst (λ (es : List Entry). EntriesAreGood uuid 0 es last) (take_all i entries over) l.good)
 
-bad_within : (uuid : List ℕ) (last : ℕ) (e : Entry) (n : ℕ) (breach : Breach) → IsBadEntry uuid last e n breach → n < regions_in (e ∷ [])
-bad_within uuid last (Trans tid regions) n breach bad =
+bad_within : (uuid : List ℕ) (last : ℕ) (e : Entry) (n : ℕ) (why : ItemFault) → IsBadEntry uuid last e n why → n < regions_in (e ∷ [])
+bad_within uuid last (Trans tid regions) n why bad =
     let front : List (List ℕ) = flat_map regions_of bad.logged in
     elim bad.broken [
       | inl first ↦ omega (arith, ap length first.0, length-append front (bad.region ∷ bad.more), first.1)
       | inr second ↦ omega (arith, ap length second.1, length-append front (item_bytes second.0 ∷ bad.region ∷ bad.more), second.2)
     ]
-bad_within uuid last Unmount n breach bad = absurd bad
+bad_within uuid last Unmount n why bad = absurd bad
 
 around : (entries : List Entry) (i : ℕ) (e : Entry) → i < length entries → e ≡ get_or entries i e → entries ≡ take i entries ++ e ∷ drop (suc i) entries
 around entries i e within is = split_at entries i e within ∙ ap (λ (x : Entry). take i entries ++ x ∷ drop (suc i) entries) (sym is)
 
 -- a bad region begins in a record
-pub bad_begins : (uuid : List ℕ) (records : List LogRecord) (entries : List Entry) (i last before n : ℕ) (e : Entry) (breach : Breach) → IsItemLoop uuid entries i last before
-    → i < length entries → e ≡ get_or entries i e → IsBadEntry uuid last e n breach → HasEntries records entries → (block : ℕ) × (home_of_region false records (before + n) ≡ Some block)
-bad_begins uuid records entries i last before n e breach l within is bad said =
+pub bad_begins : (uuid : List ℕ) (records : List LogRecord) (entries : List Entry) (i last before n : ℕ) (e : Entry) (why : ItemFault) → IsItemLoop uuid entries i last before
+    → i < length entries → e ≡ get_or entries i e → IsBadEntry uuid last e n why → HasEntries records entries → (block : ℕ) × (home_of_region false records (before + n) ≡ Some block)
+bad_begins uuid records entries i last before n e why l within is bad said =
     let whole = ap regions_in (around entries i e within is) ∙ regions_more (take i entries) (e ∷ drop (suc i) entries) in
     let tail = regions_more (e ∷ []) (drop (suc i) entries) in
-    region_begins records entries (before + n) said (omega (arith, whole, tail, l.counted, bad_within uuid last e n breach bad))
+    region_begins records entries (before + n) said (omega (arith, whole, tail, l.counted, bad_within uuid last e n why bad))
 
-pub items_break : (uuid : List ℕ) (records : List LogRecord) (entries : List Entry) (i last before n block : ℕ) (e : Entry) (breach : Breach) (fault : ScanFault)
-    → IsItemLoop uuid entries i last before → i < length entries → e ≡ get_or entries i e → IsBadEntry uuid last e n breach → HasEntries records entries
-    → home_of_region false records (before + n) ≡ Some block → fault ≡ fault_at breach block → BreaksItems uuid records fault
-items_break uuid records entries i last before n block Unmount breach fault l within is bad said home named = absurd bad
-items_break uuid records entries i last before n block (Trans tid regions) breach fault l within is bad said home named = record {
+pub items_break : (uuid : List ℕ) (records : List LogRecord) (entries : List Entry) (i last before n block : ℕ) (e : Entry) (why : ItemFault) (fault : ScanFault)
+    → IsItemLoop uuid entries i last before → i < length entries → e ≡ get_or entries i e → IsBadEntry uuid last e n why → HasEntries records entries
+    → home_of_region false records (before + n) ≡ Some block → fault ≡ refusal_at why block → BreaksItems uuid records fault
+items_break uuid records entries i last before n block Unmount why fault l within is bad said home named = absurd bad
+items_break uuid records entries i last before n block (Trans tid regions) why fault l within is bad said home named = record {
   entries = entries;
   said = said;
   before = take i entries;
@@ -98,7 +100,7 @@ items_break uuid records entries i last before n block (Trans tid regions) breac
   last = last;
   good = l.good;
   n = n;
-  breach = breach;
+  why = why;
   bad = bad;
   block = block;
   home = ap (λ (m : ℕ). home_of_region false records (m + n)) (sym l.counted) ∙ home;

@@ -17,7 +17,7 @@ use Rattle.xr_commit.specs.declared.fault.ScanFault.{ScanFault}
 use Rattle.xr_commit.specs.declared.fault.ScanFault.TheVariants.{Operation}
 use Rattle.xr_commit.proofs.ChainLemmas.{no_memory_too}
 use Rattle.xr_commit.proofs.RecordLemmas.{as_many, nth, one_of}
-use Rattle.xr_commit.specs.Walking.{IsWrongRecord, ReadsRecord, HaveBeenRead, IsInLog}
+use Rattle.xr_commit.specs.ReadBodies.{IsWrongRecord, ReadsRecord, HaveBeenRead, IsInLog}
 
 pub joined_more : (before : List LogRecord) (r : LogRecord) → joined_bodies (before ++ r ∷ []) ≡ joined_bodies before ++ r.body
 joined_more before r = flat_map-append (λ (x : LogRecord). x.body) before (r ∷ []) ∙ ap (λ (b : List ℕ). joined_bodies before ++ b) (append-nil r.body)

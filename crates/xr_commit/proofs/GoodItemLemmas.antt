@@ -7,16 +7,16 @@ use Rattle.xr_record.specs.declared.entry.Entry.{Entry}
 use Rattle.xr_record.specs.declared.entry.Entry.TheVariants.{Trans, Unmount}
 use Rattle.xr_commit.specs.declared.fault.ScanFault.{ScanFault}
 use Rattle.xr_commit.specs.declared.live_stream.Live.{Live}
-use Rattle.xr_commit.specs.ItemsOf.{HaveItems}
-use Rattle.xr_commit.specs.LiveItems.{AreGood, HaveGood, last_after}
+use Rattle.xr_commit.specs.ItemsOf.{EntriesHaveItems}
+use Rattle.xr_commit.specs.GoodItems.{ItemsAreGood, EntriesAreGood, last_after}
 use Rattle.xr_commit.specs.LiveStream.{IsLiveIn}
 use Rattle.xr_commit.specs.LoggedItems.{Logged}
 
-each_valid : (uuid : List ℕ) (last : ℕ) (logged : List Logged) → AreGood uuid last logged → AllByRecursion (λ (l : Logged). IsItem l.item) logged
+each_valid : (uuid : List ℕ) (last : ℕ) (logged : List Logged) → ItemsAreGood uuid last logged → AllByRecursion (λ (l : Logged). IsItem l.item) logged
 each_valid uuid last [] good = tt
 each_valid uuid last (l ∷ ls) good = (good.0.valid, each_valid uuid (last_after last l.item) ls good.1)
 
-have_items : (uuid : List ℕ) (last : ℕ) (entries : List Entry) (last' : ℕ) → HaveGood uuid last entries last' → HaveItems entries
+have_items : (uuid : List ℕ) (last : ℕ) (entries : List Entry) (last' : ℕ) → EntriesAreGood uuid last entries last' → EntriesHaveItems entries
 have_items uuid last [] last' good = ([], tt)
 have_items uuid last (Unmount ∷ entries) last' good = let rest = have_items uuid last entries last' good in ([] ∷ rest.0, (refl, rest.1))
 have_items uuid last (Trans tid regions ∷ entries) last' good =
@@ -35,6 +35,6 @@ have_items uuid last (Trans tid regions ∷ entries) last' good =
     )
 
 pub live_items : (uuid log : List ℕ) (result : Result Live ScanFault) → IfOk result (λ live. IsLiveIn uuid log live.heads.items live.entries.items)
-    → IfOk result (λ live. HaveItems live.entries.items)
+    → IfOk result (λ live. EntriesHaveItems live.entries.items)
 live_items uuid log (Err fault) is = tt
 live_items uuid log (Ok live) is = have_items uuid 0 live.entries.items is.last is.items

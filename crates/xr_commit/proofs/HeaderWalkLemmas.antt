@@ -8,7 +8,7 @@ use Rattle.xr_base.specs.declared.layout.TheConstants.{MAX_BODY_BYTES}
 use Rattle.xr_record.specs.Operations.{fields}
 use Rattle.xr_commit.specs.Operations.{headers_in, headers_of, operation_len}
 
--- at a place in the body, behind these headers
+-- at a place in the body, after these headers
 pub record IsWalk (body : List ℕ) (at : ℕ) (passed : List Fields) : Type 0 where
   pub most : ℕ
   pub enough : length body ≤ most + at

@@ -1,13 +1,14 @@
 -- From the log's bytes to the image in which they were seen.
-use Rattle.std.proofs.Common.{◌≡◌, ◌∙◌, ℕ, List, Option, Result, Ok, Err, sym, subst, inr}
+use Rattle.std.proofs.Common.{◌≡◌, ◌∙◌, ℕ, List, Option, Result, Ok, Err, length, ap, sym, subst, inr}
 use Rattle.std.specs.Prelude.{IfOk, IfErr}
 use Rattle.xr_commit.specs.declared.fault.ScanFault.{ScanFault}
 use Rattle.xr_commit.specs.declared.fault.ScanFault.TheVariants.{Magic, Version, Length, Checksum, Place, Operation, ItemType, Size, Field, Header, DiskFault, NoMemory}
+use Rattle.xr_commit.specs.declared.layout.TheConstants.{LOG_BYTES}
 use Rattle.xr_commit.specs.declared.live_stream.Live.{Live}
-use Rattle.xr_commit.specs.LiveStream.{IsLiveIn, IsLiveStream}
+use Rattle.xr_commit.specs.LiveStream.{IsLiveIn, IsLiveStream, WasReadLive}
 use Rattle.xr_commit.specs.LogRecords.{HasSuper, log_of}
 use Rattle.xr_commit.specs.Refusals.{OrNoMemory, OrOutside, RefusesImage, RefusesLog}
-use Rattle.xr_commit.specs.Seen.{WasCounted}
+use Rattle.xr_commit.specs.DiskFaults.{WasCounted}
 use Rattle.xr_disk.specs.Seen.{WasSeen}
 use Rattle.xr_commit.proofs.LayerLemmas.{not_of_disk}
 
@@ -25,6 +26,17 @@ was_live seen uuid log (Ok live) read own is = λ image at. record {
       (subst (λ (u : List ℕ). IsLiveIn u log live.heads.items live.entries.items) (sym own) is);
 }
 was_live seen uuid log (Err fault) read own is = tt
+
+pub was_read_live : (seen : Option (List ℕ)) (uuid log bytes : List ℕ) (result : Result Live ScanFault) → WasRead seen uuid bytes → bytes ≡ log → length log ≡ LOG_BYTES
+    → IfOk result (λ (live : Live). live.uuid ≡ uuid) → IfOk result (λ (live : Live). IsLiveIn uuid bytes live.heads.items live.entries.items)
+    → IfOk result (WasReadLive seen)
+was_read_live seen uuid log bytes (Ok live) read same long own is = record {
+  log = bytes;
+  long = ap length same ∙ long;
+  live_in = subst (λ (u : List ℕ). IsLiveIn u bytes live.heads.items live.entries.items) (sym own) is;
+  log_is = read.log_is;
+}
+was_read_live seen uuid log bytes (Err fault) read same long own is = tt
 
 at_image : (seen : Option (List ℕ)) (uuid log : List ℕ) (fault : ScanFault) → WasRead seen uuid log → RefusesLog uuid log fault
     → WasSeen seen (λ image. RefusesImage image fault)

@@ -7,10 +7,11 @@ use Rattle.xr_record.specs.declared.unsealing.SealFault.TheVariants as seal
 use Rattle.xr_commit.specs.declared.fault.ScanFault.{ScanFault}
 use Rattle.xr_commit.specs.declared.fault.ScanFault.TheVariants.{DiskFault, Length}
 use Rattle.xr_commit.specs.Chain.{HasReserve}
-use Rattle.xr_commit.specs.declared.items.Breach.{Breach}
-use Rattle.xr_commit.specs.declared.items.Breach.TheVariants.{ItemType, Size, Field}
-use Rattle.xr_commit.specs.LiveItems.{HaveGood, fault_at}
-use Rattle.xr_commit.specs.Following.{AreOfChain}
+use Rattle.xr_items.specs.declared.item.ItemFault.{ItemFault}
+use Rattle.xr_items.specs.declared.item.ItemFault.TheVariants.{ItemType, Size, Field}
+use Rattle.xr_commit.specs.BadItems.{refusal_at}
+use Rattle.xr_commit.specs.GoodItems.{EntriesAreGood}
+use Rattle.xr_commit.specs.ChainHeaders.{AreOfChain}
 use Rattle.xr_commit.specs.Entries.{HasEntries}
 use Rattle.xr_commit.specs.LiveStream.{IsLiveIn}
 use Rattle.xr_commit.specs.LogRecords.{IsNewest, LogRecord, home_of}
@@ -29,24 +30,24 @@ pub records_refused : (uuid log : List ℕ) (head : Head) (heads : List Head) (f
     → (c : AreOfChain uuid log (top uuid log head n) heads) → RefusesRecords uuid head c.records fault → RefusesLog uuid log fault
 records_refused uuid log head heads fault n c refused = inr (top uuid log head n, n.newest, inr (c.records, c.chain, refused))
 
-pub no_room : (uuid log : List ℕ) (head : Head) (heads hs : List Head) (n : IsNewest uuid log head) → (c : AreOfChain uuid log (top uuid log head n) heads) → hs ≡ heads
+pub no_reserve : (uuid log : List ℕ) (head : Head) (heads hs : List Head) (n : IsNewest uuid log head) → (c : AreOfChain uuid log (top uuid log head n) heads) → hs ≡ heads
     → (HasReserve head hs → ⊥) → RefusesLog uuid log (Length (home_of head))
-no_room uuid log head heads hs n c same none =
-    records_refused uuid log head heads (Length (home_of head)) n c (inl ((λ room. none (subst (HasReserve head) (sym (same ∙ c.heads_are)) room)), refl))
+no_reserve uuid log head heads hs n c same none =
+    records_refused uuid log head heads (Length (home_of head)) n c (inl ((λ reserve. none (subst (HasReserve head) (sym (same ∙ c.heads_are)) reserve)), refl))
 
 pub bodies_refused : (uuid log : List ℕ) (head : Head) (heads hs : List Head) (fault : ScanFault) (n : IsNewest uuid log head) → (c : AreOfChain uuid log (top uuid log head n) heads)
     → hs ≡ heads → HasReserve head hs → RefusesBodies uuid c.records fault → RefusesLog uuid log fault
-bodies_refused uuid log head heads hs fault n c same room refused =
-    records_refused uuid log head heads fault n c (inr (subst (HasReserve head) (same ∙ c.heads_are) room, refused))
+bodies_refused uuid log head heads hs fault n c same reserve refused =
+    records_refused uuid log head heads fault n c (inr (subst (HasReserve head) (same ∙ c.heads_are) reserve, refused))
 
 pub is_live : (uuid log : List ℕ) (head : Head) (heads hs : List Head) (entries : List Entry) (n : IsNewest uuid log head) → (c : AreOfChain uuid log (top uuid log head n) heads)
-    → hs ≡ heads → HasReserve head hs → All KeepsUnmounts c.records → HasEntries c.records entries → (last : ℕ) → HaveGood uuid 0 entries last → IsLiveIn uuid log heads entries
-is_live uuid log head heads hs entries n c same room unmounts said last items = record {
+    → hs ≡ heads → HasReserve head hs → All KeepsUnmounts c.records → HasEntries c.records entries → (last : ℕ) → EntriesAreGood uuid 0 entries last → IsLiveIn uuid log heads entries
+is_live uuid log head heads hs entries n c same reserve unmounts said last items = record {
   head = top uuid log head n;
   newest = n.newest;
   records = c.records;
   chain = c.chain;
-  room = subst (HasReserve head) (same ∙ c.heads_are) room;
+  reserve = subst (HasReserve head) (same ∙ c.heads_are) reserve;
   unmounts = unmounts;
   heads_are = c.heads_are;
   entries_are = said;
@@ -62,10 +63,10 @@ not_of_seal (seal.Length sector) n e = cc
 not_of_seal (seal.Checksum sector) n e = cc
 not_of_seal (seal.Place sector) n e = cc
 
-not_of_items : (breach : Breach) (block n : ℕ) → DiskFault n ≡ fault_at breach block → ⊥
-not_of_items ItemType block n e = cc
-not_of_items Size block n e = cc
-not_of_items Field block n e = cc
+not_of_items : (why : ItemFault) (block n : ℕ) → DiskFault n ≡ refusal_at why block → ⊥
+not_of_items (ItemType place) block n e = cc
+not_of_items (Size place) block n e = cc
+not_of_items (Field place) block n e = cc
 
 not_of_chain : (uuid log : List ℕ) (head last : Head) (n : ℕ) → LeadsNowhere uuid log head last (DiskFault n) → ⊥
 not_of_chain uuid log head last n (inl named) = let e = named.1 in cc
@@ -76,6 +77,6 @@ pub not_of_disk : (uuid log : List ℕ) (n : ℕ) → RefusesLog uuid log (DiskF
 not_of_disk uuid log n (inl none) = let e = none.1 in cc
 not_of_disk uuid log n (inr (head, newest, inl broken)) = not_of_chain uuid log head.head broken.last.head n broken.nowhere
 not_of_disk uuid log n (inr (head, newest, inr (records, chain, inl cramped))) = let e = cramped.1 in cc
-not_of_disk uuid log n (inr (head, newest, inr (records, chain, inr (room, inl company)))) = let e = company.named in cc
-not_of_disk uuid log n (inr (head, newest, inr (records, chain, inr (room, inr (alone, inl wrong))))) = let e = wrong.named in cc
-not_of_disk uuid log n (inr (head, newest, inr (records, chain, inr (room, inr (alone, inr bad))))) = not_of_items bad.breach bad.block n bad.named
+not_of_disk uuid log n (inr (head, newest, inr (records, chain, inr (reserve, inl company)))) = let e = company.named in cc
+not_of_disk uuid log n (inr (head, newest, inr (records, chain, inr (reserve, inr (alone, inl wrong))))) = let e = wrong.named in cc
+not_of_disk uuid log n (inr (head, newest, inr (records, chain, inr (reserve, inr (alone, inr bad))))) = not_of_items bad.why bad.block n bad.named

@@ -1,7 +1,6 @@
 pub mod BodyLemmas
 pub mod ChainLemmas
 pub mod CopyLemmas
-pub mod CoreLemmas
 pub mod EntryItemLemmas
 pub mod EntryLoopLemmas
 pub mod FeedLemmas

@@ -6,19 +6,20 @@ use Rattle.xr_items.specs.declared.item.Item.TheVariants.{Buf, Inode, Begin, Don
 use Rattle.xr_items.specs.Items.{following, item_bytes}
 use Rattle.xr_items.specs.Valid.{IsItem}
 use Rattle.xr_record.specs.Stream.{are_items}
-use Rattle.xr_commit.specs.declared.items.Breach.{Breach}
-use Rattle.xr_commit.specs.LiveItems.{IsBadFollower, IsBadItem, IsFollowed, Rises}
+use Rattle.xr_items.specs.declared.item.ItemFault.{ItemFault}
+use Rattle.xr_commit.specs.BadItems.{IsBadFollower, IsBadItem}
+use Rattle.xr_commit.specs.GoodItems.{IsFollowed, Rises}
 use Rattle.xr_commit.specs.LoggedItems.{regions_of}
-use Rattle.xr_commit.specs.Testing.{IsNextBad, IsNextGood}
+use Rattle.xr_commit.specs.CheckItems.{IsNextBad, IsNextGood}
 use Rattle.xr_commit.proofs.PartLemmas.{after_format, one_follows}
 
 -- the region at a place, and those after it
 pub at_place : (regions : List (List ℕ)) (at : ℕ) (region : List ℕ) → at < length regions → region ≡ get_or regions at region → drop at regions ≡ region ∷ drop (at + 1) regions
 at_place regions at region within is = drop_more regions at region within ∙ ap (λ (r : List ℕ). r ∷ drop (at + 1) regions) (sym is)
 
-pub bad_here : (uuid : List ℕ) (last : ℕ) (regions : List (List ℕ)) (at : ℕ) (region : List ℕ) (breach : Breach) → at < length regions → region ≡ get_or regions at region
-    → IsBadItem last region breach → (n : ℕ) × (at ≡ at + n) × IsNextBad uuid last (drop at regions) n breach
-bad_here uuid last regions at region breach within is bad =
+pub bad_here : (uuid : List ℕ) (last : ℕ) (regions : List (List ℕ)) (at : ℕ) (region : List ℕ) (fault : ItemFault) → at < length regions → region ≡ get_or regions at region
+    → IsBadItem last region fault → (n : ℕ) × (at ≡ at + n) × IsNextBad uuid last (drop at regions) n fault
+bad_here uuid last regions at region fault within is bad =
     (0, omega arith, record { region = region; more = drop (at + 1) regions; broken = inl (at_place regions at region within is, refl, bad) })
 
 none_after : (uuid : List ℕ) (item : Item) → following item ≡ 0 → IsFollowed uuid item []
@@ -76,10 +77,10 @@ good_followed uuid last regions at region after item within is format some next 
       ∙ ap (λ (rs : List (List ℕ)). rs ++ drop (at + 1 + 1) regions) (sym (with_follower item after some));
 }
 
-pub bad_follower : (uuid : List ℕ) (last : ℕ) (regions : List (List ℕ)) (at : ℕ) (region after : List ℕ) (item : Item) (breach : Breach) → at + 1 < length regions
+pub bad_follower : (uuid : List ℕ) (last : ℕ) (regions : List (List ℕ)) (at : ℕ) (region after : List ℕ) (item : Item) (fault : ItemFault) → at + 1 < length regions
     → region ≡ get_or regions at region → IsItem item × (region ≡ item_bytes item) × Rises last item → 0 < following item → after ≡ get_or regions (at + 1) after
-    → IsBadFollower uuid item after breach → (n : ℕ) × (at + 1 ≡ at + n) × IsNextBad uuid last (drop at regions) n breach
-bad_follower uuid last regions at region after item breach within is format some next bad = (
+    → IsBadFollower uuid item after fault → (n : ℕ) × (at + 1 ≡ at + n) × IsNextBad uuid last (drop at regions) n fault
+bad_follower uuid last regions at region after item fault within is format some next bad = (
   1,
   refl,
   record {

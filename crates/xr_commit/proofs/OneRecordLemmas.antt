@@ -9,6 +9,7 @@ use Rattle.xr_record.specs.SealedRecordLaws.{sealed_head}
 use Rattle.xr_commit.specs.Chain.{IsChain, IsLost, IsTrail, IsPreviousRecord}
 use Rattle.xr_commit.specs.LogRecords.{IsHead, LogRecord, StandsAt, bytes_at}
 use Rattle.xr_commit.proofs.BodyLemmas.{one_body}
+use Rattle.xr_commit.proofs.ChainLemmas.{lsn_is}
 
 record_is : (r s : LogRecord) → r.head ≡ s.head → r.body ≡ s.body → r ≡ s
 record_is r s p q = λ i. record { head = p i; body = q i }
@@ -20,9 +21,6 @@ one_record log sector r s one two =
     record_is r s head (one_body bytes s.head r.body s.body (subst (λ (h : Head). IsSealed bytes h r.body) head one.sealed) two.sealed)
 
 -- places with the same number are one
-lsn_is : (a b c d : ℕ) → a ≡ b → c ≡ d → ◌≡◌ {A = Lsn} (record { cycle = a; sector = c }) (record { cycle = b; sector = d })
-lsn_is a b c d e f = cc
-
 pub same_lsn : (a b : Lsn) → a.sector < 2 ^ 32 → b.sector < 2 ^ 32 → lsn_number a ≡ lsn_number b → a ≡ b
 same_lsn a b s t e = lsn_is a.cycle b.cycle a.sector b.sector (omega (arith, s, t, e)) (omega (arith, s, t, e))
 

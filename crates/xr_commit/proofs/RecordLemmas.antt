@@ -9,7 +9,7 @@ use Rattle.xr_commit.specs.declared.fault.ScanFault.TheVariants.{Place}
 use Rattle.xr_commit.specs.LogRecords.{AreIn, LogRecord, StandsAt, home_of}
 use Rattle.xr_commit.specs.Operations.{KeepsUnmounts}
 use Rattle.xr_commit.specs.Refusals.{BreaksUnmounts}
-use Rattle.xr_commit.specs.Walking.{IsInLog}
+use Rattle.xr_commit.specs.ReadBodies.{IsInLog}
 
 pub as_many : (log : List ℕ) (heads : List Head) (records : List LogRecord) → AreIn log heads records → length heads ≡ length records
 as_many log heads records a = ap length a.heads_are ∙ length-map records (λ (r : LogRecord). r.head)

@@ -15,7 +15,7 @@ use Rattle.xr_record.specs.Stream.{AreParts, IsPiece, Piece, Transaction, Unmoun
 use Rattle.xr_record.specs.HoldLaws.{fields-append}
 use Rattle.xr_record.specs.OneWayLaws.{IsStorable, fields_of_op, length_op, op_fields, pieces_storable}
 use Rattle.xr_commit.specs.Entries.{HasEntries, joined_bodies}
-use Rattle.xr_commit.specs.LiveItems.{home_of_region, regions_begun, regions_in, started_after}
+use Rattle.xr_commit.specs.RegionHomes.{home_of_region, regions_begun, regions_in, started_after}
 use Rattle.xr_commit.specs.LogRecords.{LogRecord, home_of}
 use Rattle.xr_commit.specs.Operations.{HoldsOperations, headers_in, headers_of, operation_len}
 use Rattle.xr_commit.proofs.HeaderWalkLemmas.{none_left}
@@ -45,7 +45,7 @@ header_on bytes whole =
     enough_steps (length bytes) (suc (length bytes)) bytes (omega arith) (omega arith) ∙ first_header (length bytes) bytes whole
     ∙ ap (λ (hs : List Fields). fields bytes ∷ hs) (enough_steps (length bytes) (length rest) rest (omega (arith, shorter)) (omega arith))
 
--- behind whole operations stand the headers of what follows them
+-- after whole operations stand the headers of what follows them
 whole_on : (n : ℕ) (xs ys : List ℕ) → length xs ≤ n → sum_by operation_len (headers_of xs) ≡ length xs → headers_of (xs ++ ys) ≡ headers_of xs ++ headers_of ys
 whole_on n [] ys few whole = refl
 whole_on zero (x ∷ xs) ys few whole = absurd (omega (arith, few))
@@ -58,9 +58,9 @@ whole_on (suc n) (x ∷ xs) ys few whole = elim (cases_lt (length (x ∷ xs)) 12
       let sum : len + sum_by operation_len (headers_of (drop len bytes)) ≡ length bytes = sym (sum_by-cons operation_len (fields bytes) (headers_of (drop len bytes))) ∙ ap (λ (hs : List Fields). sum_by operation_len hs) (sym one) ∙ whole in
       let left = length-drop len bytes in
       let same : fields (bytes ++ ys) ≡ fields bytes = fields-append bytes ys long in
-      let behind : drop (operation_len (fields (bytes ++ ys))) (bytes ++ ys) ≡ drop len bytes ++ ys = ap (λ (f : Fields). drop (operation_len f) (bytes ++ ys)) same ∙ drop-append-le len bytes ys (omega (arith, sum)) in
+      let after : drop (operation_len (fields (bytes ++ ys))) (bytes ++ ys) ≡ drop len bytes ++ ys = ap (λ (f : Fields). drop (operation_len f) (bytes ++ ys)) same ∙ drop-append-le len bytes ys (omega (arith, sum)) in
       let rest = whole_on n (drop len bytes) ys (omega (arith, few, left)) (omega (arith, sum, left)) in
-      header_on (bytes ++ ys) (omega (arith, long, length-append bytes ys)) ∙ rw (same, behind, rest, one) refl)
+      header_on (bytes ++ ys) (omega (arith, long, length-append bytes ys)) ∙ rw (same, after, rest, one) refl)
 ]
 
 bodies_whole : (records : List LogRecord) → All HoldsOperations records → headers_of (joined_bodies records) ≡ flat_map (λ (r : LogRecord). headers_of r.body) records
@@ -75,9 +75,9 @@ headers_op : (op : Operation) (rest : List ℕ) → IsStorable op → headers_of
 headers_op op rest small =
     let is : fields (operation_bytes op ++ rest) ≡ op_fields op = fields_of_op op rest small.tid small.len in
     let long = length_op op in
-    let behind : drop (operation_len (fields (operation_bytes op ++ rest))) (operation_bytes op ++ rest) ≡ rest =
+    let after : drop (operation_len (fields (operation_bytes op ++ rest))) (operation_bytes op ++ rest) ≡ rest =
     ap (λ (f : Fields). drop (operation_len f) (operation_bytes op ++ rest)) is ∙ ap (λ (n : ℕ). drop n (operation_bytes op ++ rest)) (sym long) ∙ drop-append_seam (operation_bytes op) rest in
-    header_on (operation_bytes op ++ rest) (omega (arith, long, length-append (operation_bytes op) rest)) ∙ rw (is, behind) refl
+    header_on (operation_bytes op ++ rest) (omega (arith, long, length-append (operation_bytes op) rest)) ∙ rw (is, after) refl
 
 headers_ops : (ops : List Operation) (rest : List ℕ) → AllByRecursion IsStorable ops → headers_of (all_bytes ops ++ rest) ≡ map op_fields ops ++ headers_of rest
 headers_ops [] rest all = refl

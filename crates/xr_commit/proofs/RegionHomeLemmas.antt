@@ -8,10 +8,10 @@ use Rattle.xr_record.specs.declared.operation.Fields.{Fields}
 use Rattle.xr_record.specs.declared.layout.TheConstants.{OPERATION_BYTES}
 use Rattle.xr_base.specs.declared.layout.TheConstants.{MAX_BODY_BYTES}
 use Rattle.xr_record.specs.Operations.{fields}
-use Rattle.xr_commit.specs.LiveItems.{begins_region, home_of_region, is_start, regions_begun, started_after}
+use Rattle.xr_commit.specs.RegionHomes.{begins_region, home_of_region, is_start, regions_begun, started_after}
 use Rattle.xr_commit.specs.LogRecords.{AreIn, LogRecord, home_of}
 use Rattle.xr_commit.specs.Operations.{headers_of, operation_len}
-use Rattle.xr_commit.specs.Walking.{IsInLog}
+use Rattle.xr_commit.specs.ReadBodies.{IsInLog}
 use Rattle.xr_commit.proofs.HeaderWalkLemmas.{IsWalk, walk_begins, walk_ends, walk_on}
 use Rattle.xr_commit.proofs.RecordLemmas.{as_many, nth, one_of}
 

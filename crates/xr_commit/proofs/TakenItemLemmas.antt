@@ -1,18 +1,18 @@
 -- Taking the items of a transaction from its regions, one after another.
-use Rattle.std.proofs.Common.{◌≡◌, ℕ, ◌+◌, ◌<◌, ◌≤◌, List, [], ◌∷◌, ◌++◌, length, get_or, map, refl, sym, ap, ◌∙◌, arith, length-append}
+use Rattle.std.proofs.Common.{◌≡◌, ℕ, ◌+◌, ◌<◌, ◌≤◌, List, [], ◌∷◌, ◌++◌, length, get_or, map, sym, ap, ◌∙◌, arith, length-append}
 use Rattle.std.specs.List.{AllByRecursion, flat_map}
 use Rattle.std.proofs.Math.Seq.{get_or-append_seam}
 use Rattle.std.proofs.lemmas.Grind.{flat_map-append}
 use Rattle.std.proofs.lemmas.List.{append-nil, append_assoc, map-append}
 use Rattle.xr_items.specs.declared.item.Item.{Item}
-use Rattle.xr_items.specs.declared.item.Item.TheVariants.{Buf, Inode, Begin, Done}
 use Rattle.xr_items.specs.Items.{item_bytes}
 use Rattle.xr_items.specs.Valid.{IsItem}
 use Rattle.xr_commit.specs.ItemsOf.{region_count}
 use Rattle.xr_commit.specs.LoggedItems.{Logged, regions_of}
+use Rattle.xr_commit.proofs.ItemLoopLemmas.{as_many}
 
-abbrev IsGood : Logged → Type 0
-IsGood l = IsItem l.item
+abbrev HoldsItem : Logged → Type 0
+HoldsItem l = IsItem l.item
 
 -- of these items the first are taken, whose regions come to this place
 pub record IsParted (logged : List Logged) (at : ℕ) (items : List Item) : Type 0 where
@@ -29,26 +29,18 @@ pub record HasNext (logged : List Logged) (regions : List (List ℕ)) (at : ℕ)
   pub within : at + region_count item ≤ length regions
   pub parted : IsParted logged (at + region_count item) (items ++ item ∷ [])
 
-later : (front back : List Logged) → AllByRecursion IsGood (front ++ back) → AllByRecursion IsGood back
+later : (front back : List Logged) → AllByRecursion HoldsItem (front ++ back) → AllByRecursion HoldsItem back
 later [] back all = all
 later (l ∷ front) back all = later front back all.1
 
-count : (l : Logged) → length (regions_of l) ≡ region_count l.item
-count l = counted l.item l.bytes where
-  counted : (item : Item) (bytes : List ℕ) → length (regions_of (record { item = item; bytes = bytes })) ≡ region_count item
-  counted (Buf sector) bytes = refl
-  counted (Inode ino) bytes = refl
-  counted (Begin id work) bytes = refl
-  counted (Done id of) bytes = refl
-
-next_of : (front back : List Logged) (default : List ℕ) → AllByRecursion IsGood (front ++ back)
+next_of : (front back : List Logged) (default : List ℕ) → AllByRecursion HoldsItem (front ++ back)
     → length (flat_map regions_of front) < length (flat_map regions_of (front ++ back))
     → HasNext (front ++ back) (flat_map regions_of (front ++ back)) (length (flat_map regions_of front)) (map (λ (l : Logged). l.item) front) default
 next_of front [] default all below = absurd (omega (arith, ap (λ ls. length (flat_map regions_of ls)) (append-nil front)))
 next_of front (l ∷ back) default all below =
     let parts : flat_map regions_of (front ++ l ∷ back) ≡ flat_map regions_of front ++ (regions_of l ++ flat_map regions_of back) = flat_map-append regions_of front (l ∷ back) in
     let pushed : flat_map regions_of (front ++ l ∷ []) ≡ flat_map regions_of front ++ (regions_of l ++ []) = flat_map-append regions_of front (l ∷ []) in
-    let own = count l in
+    let own = as_many l in
     record {
       item = l.item;
       valid = (later front (l ∷ back) all).0;
@@ -64,7 +56,7 @@ next_of front (l ∷ back) default all below =
     }
 
 -- what is taken next, where the regions go on
-pub next : (logged : List Logged) (regions : List (List ℕ)) (at : ℕ) (items : List Item) (default : List ℕ) → AllByRecursion IsGood logged
+pub next : (logged : List Logged) (regions : List (List ℕ)) (at : ℕ) (items : List Item) (default : List ℕ) → AllByRecursion HoldsItem logged
     → regions ≡ flat_map regions_of logged → IsParted logged at items → at < length regions → HasNext logged regions at items default
 next logged regions at items default good regions_are parted below =
     rw (regions_are, parted.logged_are, parted.at_is, parted.items_are)

@@ -5,7 +5,7 @@ use Rattle.std.specs.List.{list_any}
 use Rattle.xr_record.specs.declared.head.Head.{Head}
 use Rattle.xr_commit.specs.LogRecords.{LogRecord}
 use Rattle.xr_commit.specs.Operations.{KeepsUnmounts, StandsAlone, headers_of, is_unmount}
-use Rattle.xr_commit.specs.Walking.{IsInLog}
+use Rattle.xr_commit.specs.ReadBodies.{IsInLog}
 
 -- the test of the body that was taken is one of the record's
 pub in_company : (log body : List ℕ) (head : Head) (r : LogRecord) (n : ℕ) (unmounts : Bool) → IsInLog log head r → body ≡ r.body

@@ -9,7 +9,7 @@ use Rattle.xr_record.specs.Record.{sectors_of}
 use Rattle.xr_record.specs.SealedRecordLaws.{sealed_len, sealed_length}
 use Rattle.xr_commit.specs.declared.layout.TheConstants.{LOG_BYTES, MOST_RECORD_BYTES}
 use Rattle.xr_commit.specs.Chain.{IsChain, IsTrail}
-use Rattle.xr_commit.specs.Following.{AreOfChain}
+use Rattle.xr_commit.specs.ChainHeaders.{AreOfChain}
 use Rattle.xr_commit.proofs.RecordLemmas.{as_many, nth}
 use Rattle.xr_commit.specs.LogRecords.{AreIn, IsHead, IsNewest, LogRecord, StandsAt, bytes_at, record_end}
 

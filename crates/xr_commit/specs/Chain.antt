@@ -1,4 +1,4 @@
--- The chain of records from the head back to its tail, and the room that it leaves in the log.
+-- The chain of records from the head back to its tail, and the reserve of free sectors after the head.
 use Rattle.std.specs.Prelude.{◌≡◌, ◌≢◌, ◌⊎◌, ℕ, ◌+◌, ◌%◌, ◌<◌, ◌≤◌, List, [], ◌∷◌, All}
 use Rattle.xr_base.specs.declared.geometry.TheConstants.{LOG_SECTORS}
 use Rattle.xr_record.specs.declared.head.Head.{Head}

@@ -1,4 +1,4 @@
--- Going from the last item of a log to the first, with the ids of the done items that were met.
+-- Going from the last item of a log to the first, with the ids of the done items that were met; of no public contract.
 use Rattle.std.specs.Prelude.{◌≡◌, ℕ, Bool, ◌&&◌, ◌||◌, ◌==◌, List, ◌++◌, reverse}
 use Rattle.std.specs.BTreeSet.{BTreeSet, contains}
 use Rattle.std.specs.Ordering.{nat_cmp}

@@ -7,14 +7,14 @@ use Rattle.xr_record.specs.declared.entry.Entry.{Entry}
 use Rattle.xr_commit.specs.LoggedItems.{AreItemsOf, AreItemsOfEach, IsEntryOf}
 
 -- the regions of a transaction, an entry, and some entries that have items
-abbrev pub HoldItems : List (List ℕ) → Type 0
-HoldItems regions = (items : List Item) × AreItemsOf regions items
+abbrev pub RegionsHaveItems : List (List ℕ) → Type 0
+RegionsHaveItems regions = (items : List Item) × AreItemsOf regions items
 
-abbrev pub HasItems : Entry → Type 0
-HasItems entry = (items : List Item) × IsEntryOf entry items
+abbrev pub EntryHasItems : Entry → Type 0
+EntryHasItems entry = (items : List Item) × IsEntryOf entry items
 
-abbrev pub HaveItems : List Entry → Type 0
-HaveItems entries = (items : List (List Item)) × AreItemsOfEach entries items
+abbrev pub EntriesHaveItems : List Entry → Type 0
+EntriesHaveItems entries = (items : List (List Item)) × AreItemsOfEach entries items
 
 -- the items of lists that a slice holds
 abbrev pub items_in : List (Vec Item) → List (List Item)

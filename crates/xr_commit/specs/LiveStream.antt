@@ -1,12 +1,14 @@
 -- The live stream of an image.
-use Rattle.std.specs.Prelude.{◌≡◌, ℕ, List, All}
+use Rattle.std.specs.Prelude.{◌≡◌, ℕ, Option, List, All, length}
+use Rattle.xr_disk.specs.Seen.{WasSeen}
 use Rattle.xr_record.specs.declared.head.Head.{Head}
 use Rattle.xr_record.specs.declared.entry.Entry.{Entry}
 use Rattle.xr_commit.specs.declared.live_stream.Live.{Live}
+use Rattle.xr_commit.specs.declared.layout.TheConstants.{LOG_BYTES}
 use Rattle.xr_commit.specs.Chain.{IsChain, HasReserve}
 use Rattle.xr_commit.specs.LogRecords.{HasSuper, IsHead, LogRecord, heads_of, log_of}
 use Rattle.xr_commit.specs.Entries.{HasEntries}
-use Rattle.xr_commit.specs.LiveItems.{HaveGood}
+use Rattle.xr_commit.specs.GoodItems.{EntriesAreGood}
 use Rattle.xr_commit.specs.Operations.{KeepsUnmounts}
 
 -- the log of some bytes holds these records, from the head's tail to the head, and these entries, both in log order
@@ -15,15 +17,22 @@ pub record IsLiveIn (uuid log : List ℕ) (heads : List Head) (entries : List En
   pub newest : IsHead uuid log head
   pub records : List LogRecord
   pub chain : IsChain uuid log head records
-  pub room : HasReserve head.head (heads_of records)
+  pub reserve : HasReserve head.head (heads_of records)
   pub unmounts : All KeepsUnmounts records
   pub heads_are : heads ≡ heads_of records
   pub entries_are : HasEntries records entries
   -- the last id of an intent, which is the greatest
   pub last : ℕ
-  pub items : HaveGood uuid 0 entries last
+  pub items : EntriesAreGood uuid 0 entries last
 
 -- this is the live stream of the image
 pub record IsLiveStream (image : List ℕ) (live : Live) : Type 0 where
   pub superblock : HasSuper image live.uuid
   pub live_in : IsLiveIn live.uuid (log_of image) live.heads.items live.entries.items
+
+-- the bytes that were read as the image's log have this live stream, also where the disk doesn't tell the image
+pub record WasReadLive (seen : Option (List ℕ)) (live : Live) : Type 0 where
+  pub log : List ℕ
+  pub long : length log ≡ LOG_BYTES
+  pub live_in : IsLiveIn live.uuid log live.heads.items live.entries.items
+  pub log_is : WasSeen seen (λ image. log ≡ log_of image)

@@ -78,6 +78,10 @@ pub record AreIn (log : List ℕ) (heads : List Head) (records : List LogRecord)
 abbrev pub AreHeadersOf : List ℕ → List Head → Type 0
 AreHeadersOf log heads = (records : List LogRecord) × AreIn log heads records
 
+-- this is so of the records that have these headers
+abbrev pub OfRecords : List ℕ → List Head → (List LogRecord → Type 0) → Type 0
+OfRecords log heads P = (records : List LogRecord) → AreIn log heads records → P records
+
 -- the newer of two records, where there are any
 abbrev pub IsNewer : Option Head → Option Head → Option Head → Type 0
 IsNewer None found result = result ≡ found

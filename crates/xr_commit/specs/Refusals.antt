@@ -1,5 +1,5 @@
 -- Why an image has no live stream, and the block that is named. A later layer is looked at only where the earlier ones
--- hold for the whole live stream: the superblock, the head, the chain back to the tail, the room after the head, the
+-- hold for the whole live stream: the superblock, the head, the chain back to the tail, the reserve after the head, the
 -- unmounts, the operations, the items.
 use Rattle.std.specs.Prelude.{◌≡◌, ◌⊎◌, ℕ, List, ◌∷◌, ◌++◌, All}
 use Rattle.xr_base.specs.declared.geometry.TheConstants.{FIRST_LOG_BLOCK}
@@ -13,7 +13,7 @@ use Rattle.xr_commit.specs.declared.fault.ScanFault.{ScanFault}
 use Rattle.xr_commit.specs.declared.fault.ScanFault.TheVariants.{Magic, Version, Length, Checksum, Place, Operation, Header, DiskFault, NoMemory}
 use Rattle.xr_commit.specs.Chain.{IsChain, IsLost, NamesAstray, NamesNoRecord, NamesNoSector, HasReserve}
 use Rattle.xr_commit.specs.Entries.{joined_bodies}
-use Rattle.xr_commit.specs.LiveItems.{BreaksItems}
+use Rattle.xr_commit.specs.BadItems.{BreaksItems}
 use Rattle.xr_commit.specs.LogRecords.{HasNoRecord, HasSuper, IsHead, LogRecord, heads_of, home_of, log_of, log_block_of}
 use Rattle.xr_commit.specs.Operations.{HoldsOperations, KeepsUnmounts}
 

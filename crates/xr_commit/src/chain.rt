@@ -1,6 +1,6 @@
 //! Following the log back from the head to its tail.
 ghost use Rattle.std.specs.Prelude.{◌≡◌, ◌<◌, ◌≤◌, ℕ, List, IfOk, IfErr, length};
-ghost use Rattle.xr_commit.specs.Following.{HasChain, HasNoChain, IsHeaderBefore};
+ghost use Rattle.xr_commit.specs.ChainHeaders.{HasChain, HasNoChain, IsHeaderBefore};
 ghost use Rattle.xr_commit.specs.LogRecords.{IsNewest};
 ghost use Rattle.xr_commit.specs.Refusals.{LeadsNowhere, OrNoMemory};
 
@@ -18,10 +18,10 @@ fn step_back(
     log: &[u8],
     head: &Head,
     last: &Head,
-    room: &mut [u8],
+    scratch: &mut [u8],
 ) -> Result<Head, ScanFault>
     requires log { length log.now ≡ LOG_BYTES }
-    requires room { length room.old ≡ MOST_RECORD_BYTES }
+    requires scratch { length scratch.old ≡ MOST_RECORD_BYTES }
     ensures before { IfOk result (IsHeaderBefore uuid.now log.now head.now.tail last.now) }
     ensures nowhere { IfErr result (LeadsNowhere uuid.now log.now head.now last.now) }
 {
@@ -30,7 +30,7 @@ fn step_back(
             block: log_block_of(last.lsn.sector),
         });
     }
-    let found = open_at(log, last.prev, room)?;
+    let found = open_at(log, last.prev, scratch)?;
     let lsn = found.lsn.number();
     if found.uuid != *uuid || lsn >= last.lsn.number() || lsn < head.tail.number() {
         return Err(ScanFault::Place {
@@ -46,10 +46,10 @@ pub fn follow(
     uuid: &Uuid,
     log: &[u8],
     head: &Head,
-    room: &mut [u8],
+    scratch: &mut [u8],
 ) -> Result<Vec<Head>, ScanFault>
     requires log { length log.now ≡ LOG_BYTES }
-    requires room { length room.old ≡ MOST_RECORD_BYTES }
+    requires scratch { length scratch.old ≡ MOST_RECORD_BYTES }
     requires head { IsNewest uuid.now log.now head.now }
     ensures chain { IfOk result (λ heads. HasChain uuid.now log.now head.now heads.items) }
     ensures broken { IfErr result (OrNoMemory (HasNoChain uuid.now log.now head.now)) }
@@ -57,7 +57,7 @@ pub fn follow(
     let mut heads = vec![in alloc; *head]?;
     let mut last = *head;
     while last.lsn != head.tail {
-        last = step_back(uuid, log, head, &last, room)?;
+        last = step_back(uuid, log, head, &last, scratch)?;
         heads.push(last)?;
     }
     heads.reverse();

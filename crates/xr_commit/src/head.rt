@@ -11,13 +11,13 @@ use xr_base::geometry::LOG_SECTORS;
 use xr_record::Head;
 
 /// The header of the record of this file system at a sector.
-fn own_at(uuid: &Uuid, log: &[u8], sector: u32, room: &mut [u8]) -> Option<Head>
+fn own_at(uuid: &Uuid, log: &[u8], sector: u32, scratch: &mut [u8]) -> Option<Head>
     requires log { length log.now ≡ LOG_BYTES }
     requires sector { sector < LOG_SECTORS }
-    requires room { length room.old ≡ MOST_RECORD_BYTES }
+    requires scratch { length scratch.old ≡ MOST_RECORD_BYTES }
     ensures { (head : Head) → (result ≡ Some head) ↔ IsHeaderAt uuid.now log.now sector head }
 {
-    match open_at(log, sector, room) {
+    match open_at(log, sector, scratch) {
         Ok(head) if head.uuid == *uuid => Some(head),
         _ => None,
     }
@@ -37,14 +37,14 @@ fn newer(best: Option<Head>, found: Option<Head>) -> Option<Head>
 }
 
 /// The header of the newest record of this file system in the log.
-pub fn find_head(uuid: &Uuid, log: &[u8], room: &mut [u8]) -> Option<Head>
+pub fn find_head(uuid: &Uuid, log: &[u8], scratch: &mut [u8]) -> Option<Head>
     requires log { length log.now ≡ LOG_BYTES }
-    requires room { length room.old ≡ MOST_RECORD_BYTES }
+    requires scratch { length scratch.old ≡ MOST_RECORD_BYTES }
     ensures { MatchOption result (HasNoRecord uuid.now log.now) (IsNewest uuid.now log.now) }
 {
     let mut best = None;
     for sector in 0..LOG_SECTORS {
-        best = newer(best, own_at(uuid, log, sector, room));
+        best = newer(best, own_at(uuid, log, sector, scratch));
     }
     best
 }

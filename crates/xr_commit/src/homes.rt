@@ -1,16 +1,16 @@
 //! The record in which a region of the stream begins.
 ghost use Rattle.std.specs.Prelude.{◌≡◌, ◌≤◌, ◌<◌, ◌+◌, ◌^◌, ℕ, false, List, Some, length, if◌then◌else◌};
-ghost use Rattle.xr_commit.specs.LiveItems.{begins_region, home_of_region, is_start, regions_begun, started_after};
-ghost use Rattle.xr_commit.specs.LogRecords.{AreIn, LogRecord, AreHeadersOf};
+ghost use Rattle.xr_commit.specs.RegionHomes.{begins_region, home_of_region, is_start, regions_begun, started_after};
+ghost use Rattle.xr_commit.specs.LogRecords.{AreHeadersOf, OfRecords};
 ghost use Rattle.xr_commit.specs.Operations.{headers_of};
 ghost use Rattle.xr_record.specs.declared.layout.TheConstants.{OPERATION_BYTES};
 ghost use Rattle.xr_base.specs.declared.layout.TheConstants.{MAX_BODY_BYTES};
 ghost use Rattle.xr_record.specs.Operations.{fields};
 
+use crate::bodies::body_at;
 use crate::fault::log_block_of;
 use crate::layout::{LOG_BYTES, MOST_RECORD_BYTES};
 use crate::operations::operation_len;
-use crate::stream::body_at;
 use xr_record::Head;
 use xr_record::layout::{CONTINUE, OPERATION_BYTES, START, TRANSACTION_CLIENT};
 
@@ -60,17 +60,17 @@ fn begun_in(body: &[u8], started: bool) -> Begun
 }
 
 /// The block of the record in which a region of the stream begins, which has a record.
-pub fn block_of_region(log: &[u8], heads: &[Head], region: u128, room: &mut [u8]) -> u32
+pub fn block_of_region(log: &[u8], heads: &[Head], region: u128, scratch: &mut [u8]) -> u32
     requires log { length log.now ≡ LOG_BYTES }
-    requires room { length room.old ≡ MOST_RECORD_BYTES }
+    requires scratch { length scratch.old ≡ MOST_RECORD_BYTES }
     requires records { AreHeadersOf log.now heads.now }
-    requires begins { (records : List LogRecord) → AreIn log.now heads.now records → (block : ℕ) × (home_of_region false records region ≡ Some block) }
-    ensures { (records : List LogRecord) → AreIn log.now heads.now records → home_of_region false records region ≡ Some result }
+    requires begins { OfRecords log.now heads.now (λ records. (block : ℕ) × (home_of_region false records region ≡ Some block)) }
+    ensures { OfRecords log.now heads.now (λ records. home_of_region false records region ≡ Some result) }
 {
     let mut left = region;
     let mut started = false;
     for head in heads {
-        let begun = begun_in(body_at(log, head, room), started);
+        let begun = begun_in(body_at(log, head, scratch), started);
         if left < begun.regions as u128 {
             return log_block_of(head.lsn.sector);
         }

@@ -2,7 +2,9 @@
 //! the items of its transactions, and which intents are pending.
 #![tactic(auto)]
 
+mod bodies;
 mod chain;
+mod check_items;
 mod fault;
 mod head;
 mod homes;
@@ -10,22 +12,20 @@ mod items;
 mod laws;
 mod layout;
 mod live_stream;
-mod logged;
 mod opening;
 mod operations;
 mod pending;
 #[cfg(test)]
 mod pending_tests;
-mod reading;
-mod room;
-mod scanning;
-mod stream;
+mod read_live;
+mod reserve;
 #[cfg(test)]
 mod tests;
 
 pub use fault::ScanFault;
+pub use items::{items_of, items_of_each};
 pub use laws::images_have_one_live_stream;
+pub use layout::layout_is_fixed;
 pub use live_stream::Live;
-pub use logged::{items_of, items_of_each};
 pub use pending::{Pending, pending_works};
-pub use scanning::live;
+pub use read_live::live;

@@ -3,13 +3,13 @@ ghost use Rattle.std.specs.Prelude.{◌≡◌, IfOk, IfErr, length};
 ghost use Rattle.xr_commit.specs.LiveStream.{IsLiveIn};
 ghost use Rattle.xr_commit.specs.Refusals.{OrNoMemory, RefusesLog};
 
+use crate::bodies::{check_unmounts, read_entries};
 use crate::chain::follow;
+use crate::check_items::check_items;
 use crate::fault::{ScanFault, log_block_of};
 use crate::head::find_head;
-use crate::items::test_items;
 use crate::layout::{LOG_BYTES, MOST_RECORD_BYTES};
-use crate::room::has_room;
-use crate::stream::{read_entries, test_unmounts};
+use crate::reserve::has_reserve;
 use std::alloc::Global;
 use uuid::Uuid;
 use xr_base::geometry::FIRST_LOG_BLOCK;
@@ -33,21 +33,21 @@ pub fn live_in(alloc: Global, uuid: Uuid, log: &[u8]) -> Result<Live, ScanFault>
     ensures live { IfOk result (λ live. IsLiveIn uuid log.now live.heads.items live.entries.items) }
     ensures refused { IfErr result (OrNoMemory (RefusesLog uuid log.now)) }
 {
-    let mut room = vec![in alloc; 0; MOST_RECORD_BYTES]?;
-    let Some(head) = find_head(&uuid, log, &mut room) else {
+    let mut scratch = vec![in alloc; 0; MOST_RECORD_BYTES]?;
+    let Some(head) = find_head(&uuid, log, &mut scratch) else {
         return Err(ScanFault::Magic {
             block: FIRST_LOG_BLOCK,
         });
     };
-    let heads = follow(alloc, &uuid, log, &head, &mut room)?;
-    if !has_room(&head, &heads) {
+    let heads = follow(alloc, &uuid, log, &head, &mut scratch)?;
+    if !has_reserve(&head, &heads) {
         return Err(ScanFault::Length {
             block: log_block_of(head.lsn.sector),
         });
     }
-    test_unmounts(log, &heads, &mut room)?;
-    let entries = read_entries(alloc, log, &heads, &mut room)?;
-    test_items(&uuid, log, &heads, &entries, &mut room)?;
+    check_unmounts(log, &heads, &mut scratch)?;
+    let entries = read_entries(alloc, log, &heads, &mut scratch)?;
+    check_items(&uuid, log, &heads, &entries, &mut scratch)?;
     Ok(Live {
         uuid,
         heads,

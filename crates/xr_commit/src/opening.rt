@@ -13,13 +13,13 @@ use xr_base::geometry::SECTOR_BYTES;
 use xr_base::layout::RECORD_MAGIC;
 use xr_record::{Head, SealFault, unseal};
 
-/// The header of the record that stands at a sector of the log. Its body is then in `room`, behind one sector. Only where
+/// The header of the record that stands at a sector of the log. Its body is then in `scratch`, after one sector. Only where
 /// a record's magic stands are the bytes copied there.
-pub fn open_at(log: &[u8], sector: u32, room: &mut [u8]) -> Result<Head, SealFault>
+pub fn open_at(log: &[u8], sector: u32, scratch: &mut [u8]) -> Result<Head, SealFault>
     requires log { length log.now ≡ LOG_BYTES }
     requires sector { sector < LOG_SECTORS }
-    requires room { length room.old ≡ MOST_RECORD_BYTES }
-    ensures stands { IfOk result (λ head. StandsAt log.now sector (record { head = head; body = part SECTOR_BYTES head.len room.new })) }
+    requires scratch { length scratch.old ≡ MOST_RECORD_BYTES }
+    ensures stands { IfOk result (λ head. StandsAt log.now sector (record { head = head; body = part SECTOR_BYTES head.len scratch.new })) }
     ensures every { (r : LogRecord) → StandsAt log.now sector r → result ≡ Ok r.head }
     ensures refused { IfErr result (IsRefusal sector (bytes_at log.now sector)) }
 {
@@ -28,7 +28,7 @@ pub fn open_at(log: &[u8], sector: u32, room: &mut [u8]) -> Result<Head, SealFau
         return Err(SealFault::Magic { sector });
     }
     let n = MOST_RECORD_BYTES.min(LOG_BYTES - from);
-    let record = &mut room[..n];
+    let record = &mut scratch[..n];
     record.copy_from_slice(&log[from..from + n]);
     unseal(record, sector)
 }

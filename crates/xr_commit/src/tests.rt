@@ -74,7 +74,7 @@ fn record(at: Lsn, tail: Lsn, prev: u32) -> Head {
 }
 
 /// Two sectors, of which the second holds a body.
-fn room_for(body: &[u8]) -> [u8; 2 * SECTOR_BYTES]
+fn scratch_for(body: &[u8]) -> [u8; 2 * SECTOR_BYTES]
     requires some { 0 < length body.now }
     requires most { length body.now ≤ SECTOR_BYTES }
     ensures body { part SECTOR_BYTES (length body.now) result ≡ body.now }
@@ -90,7 +90,7 @@ fn put(rt: &impl Abort, log: &mut [u8], head: &Head, body: &[u8]) {
     assert!(rt; body.len() == head.len as usize && head.len > 0 && head.len <= 512);
     assert!(rt; head.lsn.sector < LOG_SECTORS && head.lsn.cycle > 0 && head.lsn.cycle < CYCLES);
     assert!(rt; head.tail.number() <= head.lsn.number());
-    let mut out = room_for(body);
+    let mut out = scratch_for(body);
     seal(head, &mut out);
     let from = SECTOR_BYTES * head.lsn.sector as usize;
     assert!(rt; from + out.len() <= log.len());

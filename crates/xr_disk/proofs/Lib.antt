@@ -1,2 +1,2 @@
 pub mod MemoryCallLemmas
-pub mod TakeLemmas
+pub mod StreamLemmas

@@ -4,7 +4,7 @@ use Rattle.std.specs.List.{list_all}
 use Rattle.std.proofs.lemmas.Bool.{leb-true, le-leb}
 use Rattle.std.proofs.lemmas.Grind.{common_steps}
 use Rattle.std.proofs.lemmas.List.Folds.{list_all-append}
-use Rattle.xr_base.specs.Cause.{Rose}
+use Rattle.xr_base.specs.Cause.{HasCause}
 use Rattle.xr_base.specs.declared.geometry.TheConstants.{SECTOR_BYTES, SECTORS}
 use Rattle.xr_base.specs.Image.{overlaid, part}
 use Rattle.xr_disk.specs.declared.call.Call.{Call}
@@ -15,19 +15,17 @@ use Rattle.xr_disk.specs.Disk.{IsCall, MayTear}
 use Rattle.xr_disk.specs.Events.{Event, HasWritten, MayLeave, events_of, has_bytes, IsHistory, view_of, stops_at, call_number}
 use Rattle.std.specs.Cmp.Derive.{both_true}
 use Rattle.xr_disk.specs.EventLaws.{head_passes, tail_passes, calls_on, event_on, events_of-push}
-use Rattle.xr_disk.specs.Plan.{next_count}
 
 -- a call that is kept
 pub event_call :
     {T E : Type 0} (result : Result T E) (image image' first : List ℕ) (e : Event) (es es' : List Event) (calls calls' faults faults' : ℕ)
-    → es' ≡ e ∷ es → call_number e ≡ calls' → calls' ≡ min (calls + 1) (2 ^ 64 - 1) → calls + 1 < 2 ^ 64 → faults ≤ faults'
-    → (IsErr result → Rose faults faults') → IsCall (view_of image first es calls faults) (view_of image' first es' calls' faults') result
-event_call result image image' first e es es' calls calls' faults faults' is number clock early kept rose =
+    → es' ≡ e ∷ es → call_number e ≡ calls' → calls' ≡ min (calls + 1) (2 ^ 64 - 1) → calls + 1 < 2 ^ 64
+    → HasCause result faults faults' → IsCall (view_of image first es calls faults) (view_of image' first es' calls' faults') result
+event_call result image image' first e es es' calls calls' faults faults' is number clock early cause =
     subst (λ (xs : List Event). IsCall (view_of image first es calls faults) (view_of image' first xs calls' faults') result) (sym is) record {
       clock = clock;
       time = event_on image image' first e es calls faults calls' faults' (omega arith) (omega arith);
-      no_fewer = kept;
-      fault = rose;
+      cause = cause;
       ended = λ last. absurd (omega arith);
     }
 
@@ -96,12 +94,10 @@ write_tears first image image' es es' calls calls' faults faults' number at more
 -- a call that isn't kept
 pub failed_call :
     {T E : Type 0} (result : Result T E) (image first : List ℕ) (es : List Event) (calls calls' faults faults' : ℕ)
-    → calls' ≡ min (calls + 1) (2 ^ 64 - 1) → calls < 2 ^ 64 → faults' ≡ next_count faults → faults ≤ faults' → IsErr result
-    → IsCall (view_of image first es calls faults) (view_of image first es calls' faults') result
-failed_call result image first es calls calls' faults faults' clock small counted kept failed = record {
+    → calls' ≡ min (calls + 1) (2 ^ 64 - 1) → calls < 2 ^ 64 → HasCause result faults faults' → IsErr result → IsCall (view_of image first es calls faults) (view_of image first es calls' faults') result
+failed_call result image first es calls calls' faults faults' clock small cause failed = record {
   clock = clock;
   time = calls_on image image first es calls faults calls' faults' (omega arith);
-  no_fewer = kept;
-  fault = λ err. omega arith;
+  cause = cause;
   ended = λ last. (failed, record { seen = refl; crash = λ c. (λ left. left, λ left. left) });
 }

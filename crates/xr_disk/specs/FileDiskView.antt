@@ -1,5 +1,5 @@
 -- The view of a disk over a file.
-use Rattle.std.specs.Prelude.{Bool, String}
+use Rattle.std.specs.Prelude.{Bool, Option, String}
 use Rattle.std.specs.Global.{Global}
 use Rattle.xr_disk.specs.declared.file.FileDisk.{FileDisk}
 use Rattle.xr_disk.specs.Disk.{DiskView}
@@ -17,3 +17,7 @@ path_of disk = disk.file.path
 
 abbrev pub makes_file : {R F D : Type 0} → FileDisk R F D → Bool
 makes_file disk = disk.file.create
+
+-- the file, where it is open
+abbrev pub file_of : {R F D : Type 0} → FileDisk R F D → Option F
+file_of disk = disk.file.file

@@ -3,9 +3,11 @@ pub mod CrashLaws
 pub mod Disk
 pub mod EventLaws
 pub mod Events
+pub mod FileAccess
 pub mod FileDisk
 pub mod FileDiskView
 pub mod Memory
+pub mod MemoryCalls
 pub mod MemoryDisk
 pub mod Plan
 pub mod Runs

@@ -2,10 +2,13 @@
 use Rattle.std.specs.Prelude.{◌≡◌, ℕ, Option, List, []}
 use Rattle.xr_disk.specs.declared.memory.MemDisk.{MemDisk}
 use Rattle.xr_disk.specs.Disk.{DiskView}
-use Rattle.xr_disk.specs.Events.{events_of, view_of}
+use Rattle.xr_disk.specs.Events.{Event, events_of, view_of}
+
+abbrev pub events_in : MemDisk → List Event
+events_in d = events_of d.done.items d.bytes.items d.stop
 
 abbrev pub disk_view : MemDisk → DiskView
-disk_view d = view_of d.image.items d.first.items (events_of d.done.items d.bytes.items d.stop) d.calls d.faults
+disk_view d = view_of d.image.items d.first.items (events_in d) d.calls d.faults
 
 -- no call was made yet, and which ones are to fail
 pub record BeginsWith (image fails : List ℕ) (stop : Option ℕ) (room_calls room_bytes : ℕ) (disk : MemDisk) : Type 0 where

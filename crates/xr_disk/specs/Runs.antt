@@ -1,8 +1,8 @@
 -- How what a crash may leave goes on over calls, one line a call.
-use Rattle.std.specs.Prelude.{◌≡◌, ℕ, Some, List, Result, IsErr, OnOk, Ok, Err, refl}
+use Rattle.std.specs.Prelude.{◌≡◌, ℕ, Some, List, Result, OnOk, OnErr, Ok, Err, refl}
 use Rattle.std.proofs.Common.{inl, inr, arith, subst, sym, ◌∙◌}
 use Rattle.xr_disk.specs.Crash.{Crash, Torn, at_rest}
-use Rattle.xr_disk.specs.Disk.{DiskView, LeavesOnly, IsAtRest, IsSame, IsCall, MayTear, OnlyReads}
+use Rattle.xr_disk.specs.Disk.{DiskView, LeavesOnly, IsAtRest, IsSame, IsCall, MayTear, CoversNoMore, OnlyReads}
 
 -- nothing happened
 pub nothing_left : (disk : DiskView) (P : Crash → Type 0) → LeavesOnly disk disk P
@@ -65,16 +65,16 @@ then_write {P = P} at bytes runs call tear torn = then_call runs call
 pub after_sync : {T E : Type 0} {P : Crash → Type 0} (mid new : DiskView) (s : List ℕ) (result : Result T E)
     → ((c : Crash) → mid.may_leave c → P c)
     → OnOk result ((s : List ℕ) → mid.seen ≡ Some s → IsAtRest s new)
-    → (IsErr result → (c : Crash) → new.may_leave c → mid.may_leave c)
+    → OnErr result (CoversNoMore mid new)
     → mid.seen ≡ Some s → P (at_rest s) → (c : Crash) → new.may_leave c → P c
 after_sync {P = P} mid new s (Ok x) before durable failed seen here c left = subst P (sym ((durable s seen).alone c left)) here
-after_sync mid new s (Err e) before durable failed seen here c left = before c (failed refl c left)
+after_sync mid new s (Err e) before durable failed seen here c left = before c ((failed.crash c).0 left)
 
 -- a sync of a disk that tells what it reads
 pub then_sync : {old mid new : DiskView} {T E : Type 0} {result : Result T E} {P : Crash → Type 0} (s : List ℕ)
     → Runs old mid P → IsCall mid new result
     → OnOk result ((s : List ℕ) → mid.seen ≡ Some s → IsAtRest s new)
-    → (IsErr result → (c : Crash) → new.may_leave c → mid.may_leave c)
+    → OnErr result (CoversNoMore mid new)
     → mid.seen ≡ Some s → P (at_rest s) → Runs old new P
 then_sync {mid = mid} {new = new} {result = result} s runs call durable failed seen here =
     then_call runs call (after_sync mid new s result runs.now durable failed seen here)

@@ -1,5 +1,5 @@
 //! The calls that a disk in memory keeps, and what becomes of the next one.
-ghost use Rattle.std.specs.Prelude.{◌≡◌, ℕ, IsTrue, true};
+ghost use Rattle.std.specs.Prelude.{◌≡◌, ℕ, IsTrue};
 ghost use Rattle.xr_disk.specs.Events.{IsFate};
 
 /// A call that succeeded, or the write with which the power went. Calls count from 1.
@@ -33,7 +33,7 @@ pub(crate) enum Fate {
 
 /// What becomes of the call after so many, where `fits` says that it can be kept.
 pub(crate) fn fate_of_next(calls: u64, fails: &[u64], stop: Option<u64>, fits: bool) -> Fate
-    ensures { IsFate calls fails.now stop (fits ≡ true) result }
+    ensures { IsFate calls fails.now stop (IsTrue fits) result }
 {
     let Some(number) = calls.checked_add(1) else {
         return Fate::Fails;

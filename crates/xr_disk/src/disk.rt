@@ -1,38 +1,39 @@
 //! A disk that may crash: what its calls answer, and what a crash at any moment may leave.
-ghost use Rattle.std.specs.Prelude.{◌≡◌, ◌*◌, ◌≤◌, ℕ, Some, List, length, OnOk, IsErr};
+ghost use Rattle.std.specs.Prelude.{◌≡◌, ◌*◌, ◌≤◌, ℕ, Some, List, length, OnOk, OnErr};
 ghost use Rattle.xr_base.specs.declared.geometry.TheConstants.{SECTOR_BYTES, SECTORS};
-ghost use Rattle.xr_base.specs.Image.{part, overlaid};
+ghost use Rattle.xr_base.specs.Image.{part};
 ghost use Rattle.xr_disk.specs.Crash.{Crash, IsSectorRange};
-ghost use Rattle.xr_disk.specs.Disk.{DiskView, IsAtRest, IsSame, IsCall, MayTear};
+ghost use Rattle.xr_disk.specs.Disk.{DiskView, IsAtRest, IsSame, IsCall, MayTear, CoversNoMore, Overlays};
+ghost use Rattle.xr_disk.specs.Seen.{WasSeen};
 
 use xr_base::Fault;
 
 /// A disk of `SECTORS` sectors. Each of its calls moves a clock on by one; at the clock's last value, `u64::MAX`, each
 /// call is a fault that changes nothing. Between two syncs each range that was written may hold any bytes after a
-/// crash; bytes outside stay. Faults are counted, and a count stays at `u64::MAX`.
+/// crash; bytes outside stay. Faults are counted, and nothing else is; a count stays at `u64::MAX`.
 pub trait Disk {
     ghost view: { Self → DiskView };
 
     /// Reads whole sectors, from sector `at` on. After a fault the buffer may hold any bytes.
     fn read(&mut self, at: u32, out: &mut [u8]) -> Result<(), Fault>
         requires { IsSectorRange at (length out.old) }
-        ensures bytes { OnOk result ((s : List ℕ) → (view self.old).seen ≡ Some s → out.new ≡ part (SECTOR_BYTES * at) (length out.old) s) }
+        ensures bytes { OnOk result (WasSeen (view self.old).seen (λ s. out.new ≡ part (SECTOR_BYTES * at) (length out.old) s)) }
         ensures same { IsSame (view self.old) (view self.new) }
         ensures call { IsCall (view self.old) (view self.new) result };
 
     /// Writes whole sectors, from sector `at` on. After a fault the range may hold any bytes.
     fn write(&mut self, at: u32, bytes: &[u8]) -> Result<(), Fault>
         requires { IsSectorRange at (length bytes.now) }
-        ensures written { OnOk result ((s : List ℕ) → (view self.old).seen ≡ Some s → (view self.new).seen ≡ Some (overlaid (SECTOR_BYTES * at) bytes.now s)) }
+        ensures written { OnOk result (Overlays (SECTOR_BYTES * at) bytes.now (view self.old) (view self.new)) }
         ensures torn { MayTear (SECTOR_BYTES * at) bytes.now (view self.old) (view self.new) }
         ensures call { IsCall (view self.old) (view self.new) result };
 
-    /// Makes what was written last: after Ok a crash leaves what a read gives. After a fault no more is covered than
-    /// before.
+    /// Makes what was written last: after Ok reads give what they gave, and a crash leaves that. After a fault no more
+    /// is covered than before, and reads may give another of the images that a crash may leave.
     fn sync(&mut self) -> Result<(), Fault>
-        ensures durable { OnOk result ((s : List ℕ) → (view self.old).seen ≡ Some s → IsAtRest s (view self.new)) }
-        ensures seen { (view self.new).seen ≡ (view self.old).seen }
-        ensures failed { IsErr result → (c : Crash) → (view self.new).may_leave c → (view self.old).may_leave c }
+        ensures durable { OnOk result (WasSeen (view self.old).seen (λ s. IsAtRest s (view self.new))) }
+        ensures seen { OnOk result ((view self.new).seen ≡ (view self.old).seen) }
+        ensures failed { OnErr result (CoversNoMore (view self.old) (view self.new)) }
         ensures call { IsCall (view self.old) (view self.new) result };
 
     /// The clock: how many calls there were.

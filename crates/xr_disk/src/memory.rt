@@ -1,12 +1,14 @@
 //! A disk in memory. It keeps its calls, so that a crash may leave all that the rules of a disk allow.
-ghost use Rattle.std.specs.Prelude.{◌≡◌, ◌+◌, ◌*◌, ◌≤◌, ◌<◌, ◌^◌, ◌↔◌, ◌⊎◌, ℕ, Some, List, [], ◌∷◌, ◌++◌, length, vec_len, vec_capacity, IsTrue, IsErr, OnOk, OnErr, IfOk, MatchOption};
+ghost use Rattle.std.specs.Prelude.{◌≡◌, ◌+◌, ◌*◌, ◌≤◌, ◌<◌, ◌^◌, ◌↔◌, [], ◌∷◌, ◌++◌, length, vec_len, vec_capacity};
+ghost use Rattle.std.specs.Prelude.{IsTrue, IsErr, OnOk, OnErr, IfOk};
 ghost use Rattle.std.specs.List.{list_all};
 ghost use Rattle.xr_base.specs.Image.{part, overlaid};
 ghost use Rattle.xr_base.specs.declared.geometry.TheConstants.{SECTOR_BYTES, SECTORS};
-ghost use Rattle.xr_disk.specs.Crash.{Crash, IsSectorRange};
-ghost use Rattle.xr_disk.specs.Disk.{IsAtRest, IsSame, IsCall, MayTear};
-ghost use Rattle.xr_disk.specs.Events.{has_bytes, events_of, view_of, IsHistory, DiskFailsNext, StopsNext};
+ghost use Rattle.xr_disk.specs.Crash.{IsSectorRange};
+ghost use Rattle.xr_disk.specs.Disk.{IsAtRest, IsSame, IsCall, MayTear, CoversNoMore, Overlays};
+ghost use Rattle.xr_disk.specs.Events.{has_bytes, events_of, IsFate, IsHistory};
 ghost use Rattle.xr_disk.specs.Plan.{next_count};
+ghost use Rattle.xr_disk.specs.Seen.{WasSeen};
 ghost use Rattle.xr_disk.specs.declared.call.Call.TheVariants.{Read, Write, Sync};
 ghost use Rattle.xr_disk.specs.EventLaws.{seen_may_stay, left_now, since_now, since_narrows, left_sized};
 
@@ -88,36 +90,37 @@ impl MemDisk {
 }
 
 impl Disk for MemDisk {
-    ghost use Rattle.xr_disk.specs.MemoryDisk.{disk_view, KeepsPlan};
+    ghost use Rattle.xr_disk.specs.MemoryCalls.{NextCallFails, NextWriteStops, HasCallRoom, HasWriteRoom};
+    ghost use Rattle.xr_disk.specs.MemoryCalls.{AddsCall, KeepsContents, AddsWrite, ChangesOnlyCounts};
+    ghost use Rattle.xr_disk.specs.MemoryDisk.{disk_view, events_in, KeepsPlan};
 
-    ghost view = { λ d. view_of d.image.items d.first.items (events_of d.done.items d.bytes.items d.stop) d.calls d.faults };
+    ghost view = { λ d. disk_view d };
 
-    ghost seen_may_stay = { λ d s seen. seen_may_stay d.first.items d.image.items d.synced.items s (events_of d.done.items d.bytes.items d.stop) d.calls d.history seen };
+    ghost seen_may_stay = { λ d s seen. seen_may_stay d.first.items d.image.items d.synced.items s (events_in d) d.calls d.history seen };
 
-    ghost counts_now = { λ d t c within left. left_now d.first.items (events_of d.done.items d.bytes.items d.stop) t c left };
+    ghost counts_now = { λ d t c within left. left_now d.first.items (events_in d) t c left };
 
-    ghost only_now = { λ d c left. since_now d.first.items (events_of d.done.items d.bytes.items d.stop) d.calls c d.history.numbered left };
+    ghost only_now = { λ d c left. since_now d.first.items (events_in d) d.calls c d.history.numbered left };
 
-    ghost narrows = { λ d t u c earlier left. since_narrows d.first.items (events_of d.done.items d.bytes.items d.stop) t u c earlier left };
+    ghost narrows = { λ d t u c earlier left. since_narrows d.first.items (events_in d) t u c earlier left };
 
-    ghost sized = { λ d c left. left_sized d.first.items (events_of d.done.items d.bytes.items d.stop) c d.history.size d.history.within left };
+    ghost sized = { λ d c left. left_sized d.first.items (events_in d) c d.history.size d.history.within left };
 
     fn read(&mut self, at: u32, out: &mut [u8]) -> Result<(), Fault>
         requires { IsSectorRange at (length out.old) }
-        ensures bytes { OnOk result ((s : List ℕ) → (disk_view self.old).seen ≡ Some s → out.new ≡ part (SECTOR_BYTES * at) (length out.old) s) }
+        ensures bytes { OnOk result (WasSeen (disk_view self.old).seen (λ s. out.new ≡ part (SECTOR_BYTES * at) (length out.old) s)) }
         ensures same { IsSame (disk_view self.old) (disk_view self.new) }
         ensures call { IsCall (disk_view self.old) (disk_view self.new) result }
 
-        // Exactly when it fails, and what is kept.
-        ensures fault { IsErr result ↔ DiskFailsNext self.old.calls self.old.fails.items self.old.stop (vec_len self.old.done < self.old.room_calls) }
-        ensures kept { OnOk result (self.new.done.items ≡ self.old.done.items ++ Read (self.old.calls + 1) at ∷ []) }
-        ensures not_kept { OnErr result (self.new.done.items ≡ self.old.done.items) }
+        // Exactly when it fails, and what each outcome leaves.
+        ensures fault { IsErr result ↔ NextCallFails self.old (HasCallRoom self.old) }
+        ensures kept { OnOk result (AddsCall self.old self.new (Read (self.old.calls + 1) at)) }
+        ensures contents { KeepsContents self.old self.new }
+        ensures only_counts { OnErr result (ChangesOnlyCounts self.old self.new) }
         ensures plan { KeepsPlan self.old self.new }
     {
         let fits = self.done.len() < self.room_calls;
-        let fate = fate_of_next(self.calls, &self.fails, self.stop, fits);
-        self.calls = self.calls.saturating_add(1);
-        match fate {
+        match begin(&mut self.calls, &self.fails, self.stop, fits) {
             Fate::Succeeds => {
                 keep(
                     &mut self.done,
@@ -130,25 +133,26 @@ impl Disk for MemDisk {
                 out.copy_from_slice(&self.image[from..from + out.len()]);
                 Ok(())
             }
-            Fate::Stops | Fate::Fails => Err(count(&mut self.faults)),
+            Fate::Fails | Fate::Stops => Err(count(&mut self.faults)),
         }
     }
 
     fn write(&mut self, at: u32, bytes: &[u8]) -> Result<(), Fault>
         requires { IsSectorRange at (length bytes.now) }
-        ensures written { OnOk result ((s : List ℕ) → (disk_view self.old).seen ≡ Some s → (disk_view self.new).seen ≡ Some (overlaid (SECTOR_BYTES * at) bytes.now s)) }
+        ensures written { OnOk result (Overlays (SECTOR_BYTES * at) bytes.now (disk_view self.old) (disk_view self.new)) }
         ensures torn { MayTear (SECTOR_BYTES * at) bytes.now (disk_view self.old) (disk_view self.new) }
         ensures call { IsCall (disk_view self.old) (disk_view self.new) result }
 
-        // Exactly when it fails, and what is kept.
-        ensures fault { IsErr result ↔ DiskFailsNext self.old.calls self.old.fails.items self.old.stop
-            ((vec_len self.old.done < self.old.room_calls) × (vec_len self.old.bytes + length bytes.now ≤ self.old.room_bytes)) }
-        ensures kept { OnOk result (self.new.done.items ≡ self.old.done.items ++ Write (self.old.calls + 1) at (vec_len self.old.bytes) (length bytes.now) ∷ []) }
-        ensures kept_bytes { OnOk result (self.new.bytes.items ≡ self.old.bytes.items ++ bytes.now) }
+        // Exactly when it fails, and what each outcome leaves.
+        ensures fault { IsErr result ↔ NextCallFails self.old (HasWriteRoom self.old (length bytes.now)) }
+        ensures kept { OnOk result (AddsWrite self.old self.new at bytes.now) }
+        ensures landed { OnOk result (self.new.image.items ≡ overlaid (SECTOR_BYTES * at) bytes.now self.old.image.items) }
+        ensures unread { OnErr result (self.new.image.items ≡ self.old.image.items) }
+        ensures counted { OnErr result (self.new.faults ≡ next_count self.old.faults) }
 
-        // The write with which the power goes is kept too.
-        ensures last { StopsNext self.old.calls self.old.stop ((vec_len self.old.done < self.old.room_calls) × (vec_len self.old.bytes + length bytes.now ≤ self.old.room_bytes))
-            → (self.new.done.items ≡ self.old.done.items ++ Write (self.old.calls + 1) at (vec_len self.old.bytes) (length bytes.now) ∷ []) × (self.new.bytes.items ≡ self.old.bytes.items ++ bytes.now) }
+        // The write with which the power goes is in flight from then on.
+        ensures stopped { NextWriteStops self.old (length bytes.now) → AddsWrite self.old self.new at bytes.now }
+        ensures only_counts { OnErr result ((¬ NextWriteStops self.old (length bytes.now)) → ChangesOnlyCounts self.old self.new) }
         ensures plan { KeepsPlan self.old self.new }
     {
         let fits = has_room(
@@ -156,9 +160,7 @@ impl Disk for MemDisk {
             self.room_bytes - self.bytes.len(),
             bytes.len(),
         );
-        let fate = fate_of_next(self.calls, &self.fails, self.stop, fits);
-        self.calls = self.calls.saturating_add(1);
-        match fate {
+        match begin(&mut self.calls, &self.fails, self.stop, fits) {
             Fate::Succeeds => {
                 keep_write(&mut self.done, &mut self.bytes, self.calls, at, bytes);
                 overlay(&mut self.image, SECTOR_BYTES * at as usize, bytes);
@@ -173,28 +175,28 @@ impl Disk for MemDisk {
     }
 
     fn sync(&mut self) -> Result<(), Fault>
-        ensures durable { OnOk result ((s : List ℕ) → (disk_view self.old).seen ≡ Some s → IsAtRest s (disk_view self.new)) }
-        ensures seen { (disk_view self.new).seen ≡ (disk_view self.old).seen }
-        ensures failed { IsErr result → (c : Crash) → (disk_view self.new).may_leave c → (disk_view self.old).may_leave c }
+        ensures durable { OnOk result (WasSeen (disk_view self.old).seen (λ s. IsAtRest s (disk_view self.new))) }
+        ensures seen { OnOk result ((disk_view self.new).seen ≡ (disk_view self.old).seen) }
+        ensures failed { OnErr result (CoversNoMore (disk_view self.old) (disk_view self.new)) }
         ensures call { IsCall (disk_view self.old) (disk_view self.new) result }
 
-        // Exactly when it fails, and what is kept.
-        ensures fault { IsErr result ↔ DiskFailsNext self.old.calls self.old.fails.items self.old.stop (vec_len self.old.done < self.old.room_calls) }
-        ensures kept { OnOk result (self.new.done.items ≡ self.old.done.items ++ Sync (self.old.calls + 1) ∷ []) }
+        // Exactly when it fails, and what each outcome leaves.
+        ensures fault { IsErr result ↔ NextCallFails self.old (HasCallRoom self.old) }
+        ensures kept { OnOk result (AddsCall self.old self.new (Sync (self.old.calls + 1))) }
         ensures covered { OnOk result (self.new.synced.items ≡ self.old.image.items) }
-        ensures not_kept { OnErr result (self.new.done.items ≡ self.old.done.items) }
+        ensures image { self.new.image.items ≡ self.old.image.items }
+        ensures bytes { self.new.bytes.items ≡ self.old.bytes.items }
+        ensures only_counts { OnErr result (ChangesOnlyCounts self.old self.new) }
         ensures plan { KeepsPlan self.old self.new }
     {
         let fits = self.done.len() < self.room_calls;
-        let fate = fate_of_next(self.calls, &self.fails, self.stop, fits);
-        self.calls = self.calls.saturating_add(1);
-        match fate {
+        match begin(&mut self.calls, &self.fails, self.stop, fits) {
             Fate::Succeeds => {
                 keep(&mut self.done, Call::Sync { number: self.calls });
                 self.synced.copy_from_slice(&self.image);
                 Ok(())
             }
-            Fate::Stops | Fate::Fails => Err(count(&mut self.faults)),
+            Fate::Fails | Fate::Stops => Err(count(&mut self.faults)),
         }
     }
 
@@ -205,6 +207,17 @@ impl Disk for MemDisk {
     fn faults(&self) -> u64 {
         self.faults
     }
+}
+
+/// Counts a call, and answers what becomes of it, where `fits` says that it can be kept.
+fn begin(calls: &mut u64, fails: &[u64], stop: Option<u64>, fits: bool) -> Fate
+    ensures fate { IsFate calls.old fails.now stop (IsTrue fits) result }
+    ensures clock { calls.new ≡ next_count calls.old }
+    ensures kept { calls.old ≤ calls.new }
+{
+    let fate = fate_of_next(*calls, fails, stop, fits);
+    *calls = calls.saturating_add(1);
+    fate
 }
 
 /// Whether one more write can be kept, where there is room for so many calls and bytes.

@@ -9,7 +9,7 @@ use std::alloc::Global;
 use std::marker::Model;
 use xr_base::{Fault, NoMemory};
 
-/// Bytes that go outside. Faults are counted, and a count stays at `u64::MAX`.
+/// Bytes that go outside. Faults are counted, and nothing else is; a count stays at `u64::MAX`.
 pub trait Sink {
     // The bytes that are held, where the object tells.
     ghost held: { Self → Option (List ℕ) };

@@ -8,7 +8,7 @@ use crate::plan::Plan;
 use std::marker::Model;
 use xr_base::Fault;
 
-/// Bytes that come from outside. Faults are counted, and a count stays at `u64::MAX`.
+/// Bytes that come from outside. Faults are counted, and nothing else is; a count stays at `u64::MAX`.
 pub trait Source {
     // The bytes that are left, where the object tells.
     ghost left: { Self → Option (List ℕ) };

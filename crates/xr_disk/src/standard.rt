@@ -1,5 +1,5 @@
 //! The trusted edge: a source over any reader of std, and a sink over any writer.
-ghost use Rattle.std.specs.Prelude.{◌≡◌, ℕ, ◌<◌, ◌≤◌, None, length, IfOk, OnOk, OnErr, take};
+ghost use Rattle.std.specs.Prelude.{◌≡◌, ℕ, ◌<◌, ◌≤◌, None, length, IfOk, OnErr, take};
 ghost use Rattle.std.specs.Io.KnownBytes.{Appends, Consumes, IsAtEnd};
 ghost use Rattle.xr_base.specs.Cause.{HasCause};
 ghost use Rattle.xr_disk.specs.Stream.{TakesFront, AppendsFront, Keeps};
@@ -41,7 +41,6 @@ impl<T: Read> Source for StdSource<T> {
         ensures cause { HasCause result (source_faults self.old) (source_faults self.new) }
 
         // Exactly what is counted.
-        ensures ok { OnOk result (source_faults self.new ≡ source_faults self.old) }
         ensures err { OnErr result (source_faults self.new ≡ next_count (source_faults self.old)) }
     {
         match read_retrying(&mut self.reader, out) {
@@ -54,7 +53,8 @@ impl<T: Read> Source for StdSource<T> {
     }
 }
 
-fn read_retrying<T: Read>(reader: &mut T, out: &mut [u8]) -> Result<usize, Fault>
+/// Reads once, and again where a signal interrupts.
+pub(crate) fn read_retrying<T: Read>(reader: &mut T, out: &mut [u8]) -> Result<usize, Fault>
     requires { 0 < length out.old }
     ensures fits { IfOk result (λ n. n ≤ length out.new) }
     ensures read { IfOk result (λ n.
@@ -106,7 +106,6 @@ impl<W: Write> Sink for StdSink<W> {
         ensures cause { HasCause result (sink_faults self.old) (sink_faults self.new) }
 
         // Exactly what is counted, and what the writer got.
-        ensures ok { OnOk result (sink_faults self.new ≡ sink_faults self.old) }
         ensures err { OnErr result (sink_faults self.new ≡ next_count (sink_faults self.old)) }
         ensures written { IfOk result (λ n. Appends
             (W.contents (writer_of self.old)) (W.contents (writer_of self.new)) (take n bytes.now)) }

@@ -3,8 +3,8 @@ use Rattle.std.proofs.Common.{◌≡◌, ◌⊎◌, ℕ, ◌+◌, ◌-◌, ◌<�
 use Rattle.std.specs.Prelude.{◌≢◌, IsTrue, IsNone, IfSome}
 use Rattle.std.proofs.lemmas.Bool.{cases_lt}
 use Rattle.std.proofs.lemmas.List.{append-nil, get_or-drop, get_or-take, length-drop, length-take-le}
-use Rattle.xr_headers.specs.FirstWrong.{IsFirst, IsNamed, IsWrong}
-use Rattle.xr_headers.specs.Padded.{IsLaid, with_crc}
+use Rattle.xr_headers.specs.FirstWrong.{IsFirst, IsNamedPlace, IsWrong}
+use Rattle.xr_headers.specs.Padded.{IsZeroPadded, with_crc}
 use Rattle.xr_headers.specs.PaddedLaws.{zero_padded_is}
 
 -- what was found is the first of a kind, or there is none of it
@@ -50,7 +50,7 @@ both_widened one two Fact place finds first =
 pub named_from : (result place : Option ℕ) (right : Bool) (end : ℕ) (bytes : List ℕ) (Wrong : ℕ → Type 0)
     → IfSome result (λ named. ((place ≡ Some named) × ((named < 4) ⊎ IsTrue right)) ⊎ ((named ≡ end) × (IsTrue right → ⊥) × IfSome place (λ first. 4 ≤ first)))
     → Finds place Wrong → (IsTrue right → bytes ≡ with_crc end bytes) → (bytes ≡ with_crc end bytes → IsTrue right)
-    → IfSome result (IsNamed bytes end Wrong)
+    → IfSome result (IsNamedPlace bytes end Wrong)
 named_from None place right end bytes Wrong named finds holds given = tt
 named_from (Some n) None right end bytes Wrong (inl (is, magic)) finds holds given = let clash = is in absurd (cc)
 named_from (Some n) (Some first) right end bytes Wrong (inl (is, magic)) finds holds given =
@@ -98,33 +98,33 @@ earlier_finds (Some place) broken found Wrong none first finds = record {
 
 -- the place that a header's comparison names, for the fields of the value that its bytes hold
 pub named_widened : (found : Option ℕ) (OutOfRange : ℕ → Type 0) (bytes wanted : List ℕ) (end place : ℕ) → Finds found OutOfRange
-    → IsNamed bytes end (IsWrong bytes end wanted (λ k. found ≡ Some k)) place → IsNamed bytes end (IsWrong bytes end wanted OutOfRange) place
+    → IsNamedPlace bytes end (IsWrong bytes end wanted (λ k. found ≡ Some k)) place → IsNamedPlace bytes end (IsWrong bytes end wanted OutOfRange) place
 named_widened found OutOfRange bytes wanted end place finds (inl (first, sum)) =
     inl (first_widened found OutOfRange (λ k. (k < end) × (get_or bytes k 0 ≢ get_or wanted k 0)) place finds first, sum)
 named_widened found OutOfRange bytes wanted end place finds (inr (is, sum, magic)) =
     inr (is, sum, none_widened found OutOfRange (λ k. (k < end) × (get_or bytes k 0 ≢ get_or wanted k 0)) 4 finds magic)
 
 pub field_named : (n end size : ℕ) (found : Option ℕ) (OutOfRange : ℕ → Type 0) (bytes wanted fields : List ℕ) (place : ℕ) → length bytes ≡ n → end + 4 ≡ n
-    → IsLaid size size fields wanted → Finds found OutOfRange
-    → IsNamed bytes (length bytes - 4) (IsWrong bytes (length bytes - 4) wanted (λ k. found ≡ Some k)) place
-    → IsNamed bytes end (IsWrong bytes end fields OutOfRange) place
+    → IsZeroPadded size size fields wanted → Finds found OutOfRange
+    → IsNamedPlace bytes (length bytes - 4) (IsWrong bytes (length bytes - 4) wanted (λ k. found ≡ Some k)) place
+    → IsNamedPlace bytes end (IsWrong bytes end fields OutOfRange) place
 field_named n end size found OutOfRange bytes wanted fields place long ends laid finds named =
     let same_end : length bytes - 4 ≡ end = omega arith in
     let same : wanted ≡ fields = laid.is ∙ zero_padded_is size 0 fields (let l = laid.long in omega arith) ∙ append-nil fields in
-    let Ends : ℕ → Type 0 = λ (e : ℕ). IsNamed bytes e (IsWrong bytes e wanted (λ k. found ≡ Some k)) place in
-    let Wants : List ℕ → Type 0 = λ (w : List ℕ). IsNamed bytes end (IsWrong bytes end w (λ k. found ≡ Some k)) place in
+    let Ends : ℕ → Type 0 = λ (e : ℕ). IsNamedPlace bytes e (IsWrong bytes e wanted (λ k. found ≡ Some k)) place in
+    let Wants : List ℕ → Type 0 = λ (w : List ℕ). IsNamedPlace bytes end (IsWrong bytes end w (λ k. found ≡ Some k)) place in
     named_widened found OutOfRange bytes fields end place finds (subst Wants same (subst Ends same_end named))
 
--- the first byte that isn't zero behind the first k
-pub first_behind : (n k place : ℕ) (bytes rest : List ℕ) → rest ≡ drop k bytes → length bytes ≡ n → place < length rest → get_or rest place 0 ≢ 0
+-- the first byte that isn't zero after the first k
+pub first_after : (n k place : ℕ) (bytes rest : List ℕ) → rest ≡ drop k bytes → length bytes ≡ n → place < length rest → get_or rest place 0 ≢ 0
     → ((j : ℕ) → j < place → get_or rest j 0 ≡ 0) → IsFirst (λ p. (k ≤ p) × (p < n) × (get_or bytes p 0 ≢ 0)) (k + place)
-first_behind n k place bytes rest parts long within differs zeros =
+first_after n k place bytes rest parts long within differs zeros =
     let reads : (j : ℕ) → get_or rest j 0 ≡ get_or bytes (k + j) 0 = λ (j : ℕ). ap (λ (xs : List ℕ). get_or xs j 0) parts ∙ get_or-drop k bytes j 0 in
     let long_rest : length rest ≡ n - k = ap length parts ∙ length-drop k bytes ∙ ap (λ (m : ℕ). m - k) long in
     record {
       here = (omega arith, omega arith, (λ same. differs (reads place ∙ same)));
       none_before = λ p before wrong.
-          let behind : k ≤ p = wrong.0 in
+          let after : k ≤ p = wrong.0 in
           let same : k + (p - k) ≡ p = omega arith in
           wrong.2 (ap (λ (q : ℕ). get_or bytes q 0) (sym same) ∙ sym (reads (p - k)) ∙ zeros (p - k) (omega arith));
     }

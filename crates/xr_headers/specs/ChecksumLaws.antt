@@ -1,10 +1,10 @@
--- The parts of with_crc bytes, and when bytes are those that were with_crc.
+-- The parts of bytes with their checksum among them, and when some bytes are such.
 use Rattle.std.proofs.Common.{◌≡◌, ℕ, ◌+◌, ◌-◌, ◌<◌, ◌≤◌, List, [], ◌++◌, length, take, drop, get_or, refl, sym, ap, ◌∙◌, arith}
 use Rattle.std.proofs.lemmas.List.{append_assoc, length-take-le, take_at, drop_at, take-append-drop, drop-drop, drop_all, ext_get_or, get_or-take}
 use Rattle.byteorder.specs.Endian.{little_bytes}
 use Rattle.xr_base.specs.Checksum.{checksum_of, without_four}
 use Rattle.xr_base.specs.Image.{part}
-use Rattle.xr_headers.specs.Padded.{IsLaid, with_crc, zero_padded}
+use Rattle.xr_headers.specs.Padded.{IsZeroPadded, with_crc, zero_padded}
 use Rattle.xr_headers.specs.PaddedLaws.{length-zero_padded}
 use Rattle.xr_headers.specs.PaddingLaws.{get_or-zero_padded, zero_padded-zero_padded}
 
@@ -34,7 +34,7 @@ drop-with_crc at bytes fits = sym (drop-drop 4 at (with_crc at bytes)) ∙ ap (d
 pub with_crc-with_crc : (at : ℕ) (bytes : List ℕ) → at + 4 ≤ length bytes → with_crc at (with_crc at bytes) ≡ with_crc at bytes
 with_crc-with_crc at bytes fits = sealed_same at (with_crc at bytes) bytes (take-with_crc at bytes fits) (drop-with_crc at bytes fits)
 
--- bytes are with_crc exactly where their checksum is right
+-- bytes have their checksum among them exactly where it is right
 pub sealed_from_sum : (at : ℕ) (bytes : List ℕ) → part at 4 bytes ≡ sum_at at bytes → bytes ≡ with_crc at bytes
 unfolding with_crc
 sealed_from_sum at bytes right =
@@ -76,7 +76,7 @@ tests_from_right at n bytes wanted end right =
     )
 
 -- a header's fields alone are compared with its block
-pub wanted_is : (n at k : ℕ) (bytes fields wanted : List ℕ) → length bytes ≡ n → at + 4 ≡ n → k ≤ n → IsLaid k k fields wanted
+pub wanted_is : (n at k : ℕ) (bytes fields wanted : List ℕ) → length bytes ≡ n → at + 4 ≡ n → k ≤ n → IsZeroPadded k k fields wanted
     → with_crc (length bytes - 4) (zero_padded (length bytes) wanted) ≡ with_crc at (zero_padded n fields)
 wanted_is n at k bytes fields wanted long end fits laid =
     let place : n - 4 ≡ at = omega arith in

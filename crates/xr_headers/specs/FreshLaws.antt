@@ -7,7 +7,7 @@ use Rattle.byteorder.specs.Numbers.{big_number-reads_back}
 use Rattle.xr_base.specs.Image.{part}
 use Rattle.xr_base.specs.ImageLaws.{part-front}
 use Rattle.xr_base.specs.declared.geometry.TheConstants.{BLOCK_BYTES, SECTOR_BYTES, FIRST_LOG_BLOCK, FIRST_FILE_BLOCK, FILE_BLOCKS, FIRST_GROUP_BLOCK, GROUP_BLOCKS, UUID_BYTES}
-use Rattle.xr_headers.specs.declared.layout.TheConstants.{UUID_PLACE, BLOCK_SEAL}
+use Rattle.xr_headers.specs.declared.layout.TheConstants.{UUID_PLACE, BLOCK_CRC}
 use Rattle.xr_base.specs.declared.layout.TheConstants.{RECORD_CRC, RECORD_MAGIC}
 use Rattle.xr_headers.specs.FreshImage.{fresh_block_of, fresh_front_block, fresh_file_block, fresh_group_block, fresh_log_block, unmount_fields}
 use Rattle.xr_headers.specs.Padded.{with_crc, zero_padded}
@@ -59,7 +59,7 @@ cycle_in-fresh uuid cycle small =
 uuid_in-super : (uuid : List ℕ) → length uuid ≡ UUID_BYTES → part UUID_PLACE UUID_BYTES (super_block (record { uuid = uuid })) ≡ uuid
 unfolding super_fields
 uuid_in-super uuid long =
-    read_back BLOCK_SEAL BLOCK_BYTES UUID_PLACE UUID_BYTES (super_fields (record { uuid = uuid })) super_opening uuid super_geometry refl refl long (omega arith) (omega arith)
+    read_back BLOCK_CRC BLOCK_BYTES UUID_PLACE UUID_BYTES (super_fields (record { uuid = uuid })) super_opening uuid super_geometry refl refl long (omega arith) (omega arith)
 
 pub super_block-uuid : (u v : List ℕ) → length u ≡ UUID_BYTES → length v ≡ UUID_BYTES → super_block (record { uuid = u }) ≡ super_block (record { uuid = v }) → u ≡ v
 super_block-uuid u v long long' same = sym (uuid_in-super u long) ∙ ap (part UUID_PLACE UUID_BYTES) same ∙ uuid_in-super v long'

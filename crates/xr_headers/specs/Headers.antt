@@ -5,7 +5,7 @@ use Rattle.byteorder.specs.Endian.{big_bytes}
 use Rattle.xr_base.specs.Image.{part}
 use Rattle.xr_base.specs.declared.address.GroupNo.{GroupNo}
 use Rattle.xr_base.specs.declared.geometry.TheConstants.{BLOCK_BYTES, BLOCKS, FIRST_LOG_BLOCK, LOG_SECTORS, FILES, FIRST_FILE_BLOCK, FILE_BLOCKS, FIRST_INODE, GROUPS, FIRST_GROUP_BLOCK, GROUP_BLOCKS, FIRST_DATA_BLOCK, UUID_BYTES}
-use Rattle.xr_headers.specs.declared.layout.TheConstants.{SUPER_MAGIC, GROUP_MAGIC, CORE_MAGIC, VERSION, BLOCK_SEAL, CORE_SEAL, CORE_BYTES, CORE_ROOT_PLACE, UUID_PLACE, ROOTS_PLACE, LEVELS_PLACE, FREE_MAP_PLACE, FREE_MAP_BYTES}
+use Rattle.xr_headers.specs.declared.layout.TheConstants.{SUPER_MAGIC, GROUP_MAGIC, CORE_MAGIC, VERSION, BLOCK_CRC, CORE_CRC, CORE_BYTES, CORE_ROOT_PLACE, UUID_PLACE, ROOTS_PLACE, LEVELS_PLACE, FREE_MAP_PLACE, FREE_MAP_BYTES}
 use Rattle.xr_headers.specs.declared.superblock.Super.{Super}
 use Rattle.xr_headers.specs.declared.group_head.GroupHead.{GroupHead}
 use Rattle.xr_headers.specs.declared.file_core.Core.{Core}
@@ -32,7 +32,7 @@ super_in bytes = record { uuid = part UUID_PLACE UUID_BYTES bytes }
 
 -- the block of a superblock
 abbrev pub super_block : Super → List ℕ
-super_block s = with_crc BLOCK_SEAL (zero_padded BLOCK_BYTES (super_fields s))
+super_block s = with_crc BLOCK_CRC (zero_padded BLOCK_BYTES (super_fields s))
 
 -- numbers of 32 bits
 abbrev pub AreWords : List ℕ → Type 0
@@ -74,7 +74,7 @@ group_in bytes group uuid = record {
 
 -- the block of a group header
 abbrev pub group_block : GroupHead → List ℕ
-group_block head = with_crc BLOCK_SEAL (zero_padded BLOCK_BYTES (group_fields head))
+group_block head = with_crc BLOCK_CRC (zero_padded BLOCK_BYTES (group_fields head))
 
 -- the root stands in the file's pool, and the mask has bits for blocks of the pool alone
 pub record KeepsFilePool (core : Core) : Type 0 where
@@ -110,7 +110,7 @@ core_in bytes file uuid =
 
 -- the bytes of a file core with its checksum
 abbrev pub core_bytes : Core → List ℕ
-core_bytes core = with_crc CORE_SEAL (zero_padded CORE_BYTES (core_fields core))
+core_bytes core = with_crc CORE_CRC (zero_padded CORE_BYTES (core_fields core))
 
 -- the block of a file core
 abbrev pub core_block : Core → List ℕ

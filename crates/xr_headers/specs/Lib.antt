@@ -4,7 +4,9 @@ pub mod FreshImage
 pub mod FreshImageLaws
 pub mod FreshLaws
 pub mod HeaderLaws
+pub mod HeaderValueLaws
 pub mod Headers
+pub mod Limits
 pub mod Padded
 pub mod PaddedLaws
 pub mod PaddingLaws

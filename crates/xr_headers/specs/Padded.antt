@@ -1,17 +1,17 @@
--- Bytes with zeros behind them, numbers one after the other, and bytes with their checksum among them.
+-- Bytes with zeros after them, numbers one after the other, and bytes with their checksum among them.
 use Rattle.std.specs.Prelude.{◌≡◌, ℕ, zero, suc, ◌+◌, List, [], ◌∷◌, ◌++◌, length, take, drop}
 use Rattle.std.specs.List.{flat_map}
 use Rattle.byteorder.specs.Endian.{big_bytes, big_number, little_bytes}
 use Rattle.xr_base.specs.Checksum.{checksum_of, without_four}
 
--- the first n of the bytes, with zeros behind them where they are fewer
+-- the first n of the bytes, with zeros after them where they are fewer
 unfoldable pub zero_padded : ℕ → List ℕ → List ℕ
 zero_padded zero bytes = []
 zero_padded (suc n) [] = 0 ∷ zero_padded n []
 zero_padded (suc n) (byte ∷ bytes) = byte ∷ zero_padded n bytes
 
 -- so many bytes stand in front of zeros, n bytes in all
-pub record IsLaid (n size : ℕ) (bytes out : List ℕ) : Type 0 where
+pub record IsZeroPadded (n size : ℕ) (bytes out : List ℕ) : Type 0 where
   pub is : out ≡ zero_padded n bytes
   pub long : length bytes ≡ size
 

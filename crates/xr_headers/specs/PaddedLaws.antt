@@ -1,4 +1,4 @@
--- How long zero_padded and with_crc bytes are, and what they are made of.
+-- How long padded bytes, and bytes with their checksum among them, are, and what they are made of.
 use Rattle.std.proofs.Common.{◌≡◌, ℕ, zero, suc, ◌+◌, ◌*◌, ◌≤◌, List, [], ◌∷◌, ◌++◌, length, replicate, refl, ap, ◌∙◌, arith}
 use Rattle.std.proofs.lemmas.List.{length-append, length-take-le, length-drop}
 use Rattle.xr_headers.specs.Padded.{words, with_crc, zero_padded}

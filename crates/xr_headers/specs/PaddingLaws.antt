@@ -1,4 +1,4 @@
--- Zeros behind bytes: their parts, and how fields that are written one after the other fill them.
+-- Zeros after bytes: their parts, and how fields that are written one after the other fill them.
 use Rattle.std.proofs.Common.{◌≡◌, ℕ, zero, suc, ◌+◌, ◌-◌, ◌<◌, ◌≤◌, List, [], ◌∷◌, ◌++◌, length, take, drop, replicate, get_or, refl, sym, ap, ◌∙◌, arith}
 use Rattle.std.proofs.lemmas.List.{append-nil, ext_get_or, get_or-drop, get_or_past, length-append, length-drop, length-replicate, take-append-drop}
 use Rattle.xr_base.specs.Image.{overlaid}
@@ -41,7 +41,7 @@ append-drop-zero_padded (suc n) (byte ∷ bytes) [] over fits =
 append-drop-zero_padded (suc n) (byte ∷ bytes) (first ∷ front) over fits =
     ap (λ (rest : List ℕ). byte ∷ rest) (append-drop-zero_padded n bytes front (omega arith) (omega arith))
 
--- a field written so many zeros behind the front
+-- a field written so many zeros after the front
 pub written_after : (n k : ℕ) (front bytes : List ℕ) (at : ℕ) (old new : List ℕ) → old ≡ zero_padded n front → length front + k ≡ at
     → at + length bytes ≤ n → new ≡ overlaid at bytes old → new ≡ zero_padded n (front ++ replicate k 0 ++ bytes)
 written_after n k front bytes at old new was place fits is =
@@ -70,7 +70,7 @@ zeros_are n bytes long zeros =
     ext_get_or 0 bytes (zero_padded n []) (long ∙ sym (length-zero_padded n []))
     (λ (k : ℕ) (below : k < length bytes). let within : k < n = omega arith in zeros k within ∙ sym (get_or-zero_padded n [] k within))
 
--- bytes are some front with zeros behind it exactly where both parts are
+-- bytes are some front with zeros after it exactly where both parts are
 pub padded_from_parts : (n k : ℕ) (bytes front rest : List ℕ) → rest ≡ drop k bytes → length bytes ≡ n → length front ≡ k → k ≤ n → take k bytes ≡ front
     → ((j : ℕ) → j < length rest → get_or rest j 0 ≡ 0) → bytes ≡ zero_padded n front
 padded_from_parts n k bytes front rest is long_bytes long fits begins zeros =

@@ -1,7 +1,7 @@
 -- A field is read back from the block that it was written to.
 use Rattle.std.proofs.Common.{◌≡◌, ℕ, zero, suc, ◌+◌, ◌*◌, ◌<◌, ◌≤◌, List, [], ◌∷◌, ◌++◌, length, take, drop, get_or, refl, sym, ap, ◌∙◌, arith}
-use Rattle.std.proofs.lemmas.List.{length-append, take-take, drop-take, drop_at, drop-drop, ext_get_or}
-use Rattle.byteorder.specs.Endian.{big_number}
+use Rattle.std.proofs.lemmas.List.{length-append, take-take, drop-take, drop_at, drop-drop}
+use Rattle.byteorder.specs.Endian.{big_bytes, big_number}
 use Rattle.byteorder.specs.Numbers.{big_number-reads_back}
 use Rattle.xr_base.specs.Image.{part}
 use Rattle.xr_headers.specs.Headers.{AreWords}
@@ -28,22 +28,15 @@ read_back seal n at k fields before field after is place long below fits =
     ∙ ap (λ (m : ℕ). zero_padded m (before ++ field ++ after)) (sym whole) ∙ padded_at (before ++ field) after in
     sym (drop-take at k (with_crc seal block)) ∙ ap (drop at) front ∙ drop_at before field at place
 
-word_read : (numbers : List ℕ) (k : ℕ) → AreWords numbers → k < length numbers → big_number 4 (drop (4 * k) (words numbers)) ≡ get_or numbers k 0
-word_read [] k all within = absurd (omega arith)
-word_read (number ∷ numbers) zero all within = big_number-reads_back 4 number (words numbers) (all 0 0 (omega arith))
-word_read (number ∷ numbers) (suc k) all within =
-    let next : 4 * suc k ≡ 4 + 4 * k = omega arith in
-    ap (λ (m : ℕ). big_number 4 (drop m (words (number ∷ numbers)))) next
-    ∙ ap (big_number 4) (sym (drop-drop (4 * k) 4 (words (number ∷ numbers))))
-    ∙ word_read numbers k (λ (i d : ℕ) (below : i < length numbers). all (suc i) d (omega arith)) (omega arith)
-
 -- numbers are read back from their bytes
-pub words_read : (numbers found bytes : List ℕ) → AreWords numbers → length numbers ≡ length found → bytes ≡ words numbers
-    → ((k : ℕ) → k < length found → get_or found k 0 ≡ big_number 4 (drop (4 * k) bytes)) → found ≡ numbers
-words_read numbers found bytes all long is read =
-    ext_get_or 0 found numbers (sym long)
-    (λ (k : ℕ) (within : k < length found).
-    read k within ∙ ap (λ (xs : List ℕ). big_number 4 (drop (4 * k) xs)) is ∙ word_read numbers k all (omega arith))
+pub numbers_in-words : (numbers : List ℕ) → AreWords numbers → numbers_in (length numbers) (words numbers) ≡ numbers
+unfolding numbers_in
+numbers_in-words [] all = refl
+numbers_in-words (number ∷ numbers) all =
+    let rest : numbers_in (length numbers) (words numbers) ≡ numbers =
+    numbers_in-words numbers (λ (i d : ℕ) (below : i < length numbers). all (suc i) d (omega arith)) in
+    let first : big_number 4 (big_bytes 4 number ++ words numbers) ≡ number = big_number-reads_back 4 number (words numbers) (all 0 0 (omega arith)) in
+    ap (λ (head : ℕ). head ∷ numbers_in (length numbers) (words numbers)) first ∙ ap (λ (tail : List ℕ). number ∷ tail) rest
 
 pub numbers_read : (n : ℕ) (bytes found : List ℕ) → length found ≡ n
     → ((k : ℕ) → k < length found → get_or found k 0 ≡ big_number 4 (drop (4 * k) bytes)) → found ≡ numbers_in n bytes

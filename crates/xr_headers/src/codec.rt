@@ -3,7 +3,7 @@ ghost use Rattle.std.specs.Prelude.{◌≡◌, ◌≢◌, ℕ, ◌+◌, ◌-◌,
 ghost use Rattle.byteorder.specs.Endian.{big_bytes, little_bytes};
 ghost use Rattle.xr_base.specs.Checksum.{checksum_of, without_four};
 ghost use Rattle.xr_base.specs.Image.{part, overlaid};
-ghost use Rattle.xr_headers.specs.FirstWrong.{IsFirst, IsNamed, IsWrong};
+ghost use Rattle.xr_headers.specs.FirstWrong.{IsFirst, IsNamedPlace, IsWrong};
 ghost use Rattle.xr_headers.specs.FreshImage.{first_sector_of};
 ghost use Rattle.xr_headers.specs.Headers.{AreWords};
 ghost use Rattle.xr_headers.specs.Padded.{numbers_in, words, with_crc, zero_padded};
@@ -121,7 +121,6 @@ pub(crate) fn read_words(bytes: &[u8], at: usize, numbers: &mut [u32])
     requires { at + 4 * length numbers.old ≤ length bytes.now }
     ensures held { numbers.new ≡ numbers_in (length numbers.old) (part at (4 * length numbers.old) bytes.now) }
     ensures words { AreWords numbers.new }
-    ensures again { (written : List ℕ) → AreWords written → length written ≡ length numbers.old → part at (4 * length numbers.old) bytes.now ≡ words written → numbers.new ≡ written }
 {
     BigEndian::read_u32_into(&bytes[at..at + 4 * numbers.len()], numbers);
 }
@@ -135,7 +134,7 @@ fn is_sealed(bytes: &[u8], at: usize) -> bool
     bytes[at..at + 4] == sum[..]
 }
 
-/// The first place where the bytes aren't the wanted ones with zeros behind them.
+/// The first place where the bytes aren't the wanted ones with zeros after them.
 pub(crate) fn difference(bytes: &[u8], wanted: &[u8]) -> Option<usize>
     ensures none { IsNone result ↔ ((k : ℕ) → k < length bytes.now → slice_index bytes.now k ≡ slice_index wanted.now k) }
     ensures within { IfSome result (λ place. place < length bytes.now) }
@@ -168,7 +167,8 @@ fn earlier(one: Option<usize>, two: Option<usize>) -> Option<usize>
 /// The place that is named: one in the magic goes before a wrong checksum, which stands at `end`.
 fn magic_first(place: Option<usize>, sealed: bool, end: usize) -> Option<usize>
     ensures right { IsNone result ↔ (IsNone place × IsTrue sealed) }
-    ensures named { IfSome result (λ named. ((place ≡ Some named) × ((named < 4) ⊎ IsTrue sealed)) ⊎ ((named ≡ end) × (IsTrue sealed → ⊥) × IfSome place (λ first. 4 ≤ first))) }
+    ensures named { IfSome result (λ named. ((place ≡ Some named) × ((named < 4) ⊎ IsTrue sealed))
+        ⊎ ((named ≡ end) × (IsTrue sealed → ⊥) × IfSome place (λ first. 4 ≤ first))) }
 {
     match place {
         Some(first) if first < 4 => Some(first),
@@ -184,7 +184,8 @@ pub(crate) fn first_wrong(bytes: &[u8], wanted: &[u8], broken: Option<usize>) ->
     requires broken_within { IfSome broken (λ place. place < length bytes.now) }
     ensures right { IsNone result ↔ (IsNone broken × (bytes.now ≡ with_crc (length bytes.now - 4) (zero_padded (length bytes.now) wanted.now))) }
     ensures within { IfSome result (λ place. place < length bytes.now) }
-    ensures named { let end = length bytes.now - 4 in IfSome result (λ place. IsNamed bytes.now end (IsWrong bytes.now end wanted.now (λ k. broken ≡ Some k)) place) }
+    ensures named { let end = length bytes.now - 4 in
+        IfSome result (λ place. IsNamedPlace bytes.now end (IsWrong bytes.now end wanted.now (λ k. broken ≡ Some k)) place) }
 {
     let end = bytes.len() - 4;
     let place = earlier(broken, difference(&bytes[..end], wanted));

@@ -2,13 +2,14 @@
 ghost use Rattle.std.specs.Prelude.{◌≡◌, ◌+◌, ◌*◌, ◌<◌, ◌≤◌, ◌↔◌, length, take, IsNone, IfSome, Ok, IfOk, IfErr};
 ghost use Rattle.xr_headers.specs.FirstWrong.{IsFirst, IsCoreOutOfRange, NamesCoreBlockField, NamesCoreField, core_field};
 ghost use Rattle.xr_headers.specs.Headers.{core_in, IsCore, KeepsFilePool, core_fields, core_bytes, core_block};
-ghost use Rattle.xr_headers.specs.Padded.{IsLaid};
+ghost use Rattle.xr_headers.specs.Padded.{IsZeroPadded};
 
 use crate::codec::{
     HeaderFault, clear, difference, first_wrong, put_u64, put_uuid, put_words, read_words, seal,
 };
 use crate::layout::{
-    CORE_BYTES, CORE_FIELDS, CORE_MAGIC, CORE_ROOT_PLACE, CORE_SEAL, UUID_PLACE, VERSION,
+    CORE_BYTES, CORE_CRC, CORE_FIELDS, CORE_FREE_PLACE, CORE_MAGIC, CORE_ROOT_PLACE, INODE_PLACE,
+    UUID_PLACE, VERSION,
 };
 use uuid::Uuid;
 use xr_base::FileNo;
@@ -32,12 +33,12 @@ pub struct Core {
 
 fn lay_core(v: &Core, out: &mut [u8])
     requires { CORE_FIELDS ≤ length out.old }
-    ensures laid { IsLaid (length out.old) CORE_FIELDS (core_fields v.now) out.new }
+    ensures laid { IsZeroPadded (length out.old) CORE_FIELDS (core_fields v.now) out.new }
     ensures whole { length v.now.uuid ≡ UUID_BYTES }
 {
     clear(out);
     put_words(out, 0, &[CORE_MAGIC, VERSION]);
-    put_u64(out, 8, v.ino);
+    put_u64(out, INODE_PLACE, v.ino);
     put_uuid(out, UUID_PLACE, &v.uuid);
     put_words(out, CORE_ROOT_PLACE, &[v.root, v.level, v.free]);
 }
@@ -49,7 +50,7 @@ pub(crate) fn put_core_bytes(v: &Core, out: &mut [u8])
     ensures { out.new ≡ core_bytes v.now }
 {
     lay_core(v, out);
-    seal(out, CORE_SEAL);
+    seal(out, CORE_CRC);
 }
 
 /// Writes the core over a whole block.
@@ -71,7 +72,7 @@ fn broken_range(v: &Core) -> Option<usize>
     if v.root == 0 || v.root >= FILE_BLOCKS {
         Some(CORE_ROOT_PLACE)
     } else if v.free >= 1 << FILE_BLOCKS || v.free % 2 == 1 {
-        Some(CORE_ROOT_PLACE + 8)
+        Some(CORE_FREE_PLACE)
     } else {
         None
     }
@@ -83,9 +84,9 @@ fn field_of(place: usize) -> usize
     ensures below { result ≤ place }
 {
     match place {
-        0..8 | 32..44 => place / 4 * 4,
-        8..16 => 8,
-        16..32 => 16,
+        0..INODE_PLACE | CORE_ROOT_PLACE..CORE_FIELDS => place / 4 * 4,
+        INODE_PLACE..UUID_PLACE => INODE_PLACE,
+        UUID_PLACE..CORE_ROOT_PLACE => UUID_PLACE,
         _ => place,
     }
 }
@@ -95,7 +96,6 @@ fn read_core(bytes: &[u8], file: FileNo, uuid: &Uuid) -> Core
     ensures held { result ≡ core_in bytes.now file.0 uuid.now }
     ensures ino { result.ino ≡ FIRST_INODE + file.0 }
     ensures uuid { result.uuid ≡ uuid.now }
-    ensures again { (v : Core) → IsCore v → length v.uuid ≡ UUID_BYTES → v.ino ≡ FIRST_INODE + file.0 → v.uuid ≡ uuid.now → bytes.now ≡ core_bytes v → result ≡ v }
 {
     let mut numbers = [0; 3];
     read_words(bytes, CORE_ROOT_PLACE, &mut numbers);
@@ -109,8 +109,9 @@ fn read_core(bytes: &[u8], file: FileNo, uuid: &Uuid) -> Core
     }
 }
 
-/// Reads a core from its own bytes. The error is the place of the first wrong field.
-pub(crate) fn take_core_bytes(bytes: &[u8], file: FileNo, uuid: &Uuid) -> Result<Core, usize>
+/// Reads a core from its own bytes, as they stand in the log: all that `take_core` asks for but the zeros after them. The
+/// error is the place of the first wrong field.
+pub fn take_core_bytes(bytes: &[u8], file: FileNo, uuid: &Uuid) -> Result<Core, usize>
     requires room { length bytes.now ≡ CORE_BYTES }
     requires known { file.0 < FILES }
     ensures ok { IfOk result (λ v. IsCore v × (v.ino ≡ FIRST_INODE + file.0) × (v.uuid ≡ uuid.now) × (bytes.now ≡ core_bytes v)) }

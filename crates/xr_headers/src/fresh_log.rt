@@ -1,7 +1,7 @@
 //! The first block of a fresh log, which holds one record: the log is at rest.
 ghost use Rattle.std.specs.Prelude.{◌≡◌, length};
 ghost use Rattle.xr_headers.specs.FreshImage.{fresh_log_block, unmount_fields};
-ghost use Rattle.xr_headers.specs.Padded.{IsLaid};
+ghost use Rattle.xr_headers.specs.Padded.{IsZeroPadded};
 
 use crate::codec::{clear, put_first_lsn, put_uuid, put_words, seal};
 use crate::layout::{MISSING, UNMOUNT_BYTES, UNMOUNT_CLIENT, UNMOUNT_DATA, UNMOUNT_MAGIC};
@@ -11,7 +11,7 @@ use xr_base::layout::{MAX_BODY_BYTES, RECORD_CRC, RECORD_FORMAT, RECORD_MAGIC, R
 
 fn lay_record(uuid: &Uuid, cycle: u32, out: &mut [u8])
     requires { length out.old ≡ BLOCK_BYTES }
-    ensures { IsLaid (length out.old) 532 (unmount_fields uuid.now cycle) out.new }
+    ensures { IsZeroPadded (length out.old) 532 (unmount_fields uuid.now cycle) out.new }
 {
     clear(out);
     put_words(

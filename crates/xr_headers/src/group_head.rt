@@ -2,14 +2,14 @@
 ghost use Rattle.std.specs.Prelude.{◌≡◌, ◌+◌, ◌*◌, ◌<◌, ◌≤◌, ◌↔◌, ℕ, length, slice_index, IsNone, IfSome, Ok, IfOk, IfErr};
 ghost use Rattle.xr_headers.specs.FirstWrong.{IsFirst, IsGroupOutOfRange, NamesGroupField, group_field};
 ghost use Rattle.xr_headers.specs.Headers.{group_in, IsPoolRoot, AreWords, IsGroupHead, KeepsPool, group_fields, group_block};
-ghost use Rattle.xr_headers.specs.Padded.{IsLaid};
+ghost use Rattle.xr_headers.specs.Padded.{IsZeroPadded};
 
 use crate::codec::{
     HeaderFault, clear, first_wrong, put_bytes, put_uuid, put_words, read_words, seal,
 };
 use crate::layout::{
-    BLOCK_SEAL, FREE_MAP_BYTES, FREE_MAP_PLACE, GROUP_BYTES, GROUP_MAGIC, LEVELS_PLACE,
-    ROOTS_PLACE, UUID_PLACE, VERSION,
+    BLOCK_CRC, FREE_MAP_BYTES, FREE_MAP_PLACE, GROUP_BYTES, GROUP_MAGIC, LEVELS_PLACE, ROOTS_PLACE,
+    UUID_PLACE, VERSION,
 };
 use uuid::Uuid;
 use xr_base::GroupNo;
@@ -32,7 +32,7 @@ pub struct GroupHead {
 
 fn lay_group(v: &GroupHead, out: &mut [u8])
     requires { GROUP_BYTES ≤ length out.old }
-    ensures laid { IsLaid (length out.old) GROUP_BYTES (group_fields v.now) out.new }
+    ensures laid { IsZeroPadded (length out.old) GROUP_BYTES (group_fields v.now) out.new }
     ensures whole { length v.now.uuid ≡ UUID_BYTES }
 {
     clear(out);
@@ -50,7 +50,7 @@ pub fn put_group(v: &GroupHead, out: &mut [u8])
     ensures { out.new ≡ group_block v.now }
 {
     lay_group(v, out);
-    seal(out, BLOCK_SEAL);
+    seal(out, BLOCK_CRC);
 }
 
 /// The first root that is no block of the pool.
@@ -87,8 +87,8 @@ fn field_of(place: usize) -> usize
     ensures below { result ≤ place }
 {
     match place {
-        0..12 | 32..64 => place / 4 * 4,
-        16..32 => 16,
+        0..12 | ROOTS_PLACE..FREE_MAP_PLACE => place / 4 * 4,
+        UUID_PLACE..ROOTS_PLACE => UUID_PLACE,
         _ => place,
     }
 }
@@ -99,7 +99,6 @@ fn read_group(bytes: &[u8], group: GroupNo, uuid: &Uuid) -> GroupHead
     ensures group { result.group ≡ group }
     ensures uuid { result.uuid ≡ uuid.now }
     ensures levels { AreWords result.levels }
-    ensures again { (v : GroupHead) → IsGroupHead v → length v.uuid ≡ UUID_BYTES → v.group ≡ group → v.uuid ≡ uuid.now → bytes.now ≡ group_block v → result ≡ v }
 {
     let mut roots = [0; 4];
     read_words(bytes, ROOTS_PLACE, &mut roots);

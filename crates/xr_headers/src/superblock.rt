@@ -2,10 +2,10 @@
 ghost use Rattle.std.specs.Prelude.{◌≡◌, ◌≤◌, length, Ok, IfOk, IfErr};
 ghost use Rattle.xr_headers.specs.FirstWrong.{NamesSuperField, super_field};
 ghost use Rattle.xr_headers.specs.Headers.{super_in, IsSuper, super_fields, super_block};
-ghost use Rattle.xr_headers.specs.Padded.{IsLaid};
+ghost use Rattle.xr_headers.specs.Padded.{IsZeroPadded};
 
 use crate::codec::{HeaderFault, clear, first_wrong, put_uuid, put_words, seal, uuid_at};
-use crate::layout::{BLOCK_SEAL, SUPER_BYTES, SUPER_MAGIC, UUID_PLACE, VERSION};
+use crate::layout::{BLOCK_CRC, GEOMETRY_PLACE, SUPER_BYTES, SUPER_MAGIC, UUID_PLACE, VERSION};
 use uuid::Uuid;
 use xr_base::geometry::{
     BLOCK_BYTES, BLOCKS, FILES, FIRST_DATA_BLOCK, FIRST_FILE_BLOCK, FIRST_GROUP_BLOCK,
@@ -20,7 +20,7 @@ pub struct Super {
 
 fn lay_super(v: &Super, out: &mut [u8])
     requires { SUPER_BYTES ≤ length out.old }
-    ensures laid { IsLaid (length out.old) SUPER_BYTES (super_fields v.now) out.new }
+    ensures laid { IsZeroPadded (length out.old) SUPER_BYTES (super_fields v.now) out.new }
     ensures whole { length v.now.uuid ≡ UUID_BYTES }
 {
     clear(out);
@@ -28,7 +28,7 @@ fn lay_super(v: &Super, out: &mut [u8])
     put_uuid(out, UUID_PLACE, &v.uuid);
     put_words(
         out,
-        32,
+        GEOMETRY_PLACE,
         &[
             FIRST_LOG_BLOCK,
             LOG_SECTORS,
@@ -48,7 +48,7 @@ pub fn put_super(v: &Super, out: &mut [u8])
     ensures { out.new ≡ super_block v.now }
 {
     lay_super(v, out);
-    seal(out, BLOCK_SEAL);
+    seal(out, BLOCK_CRC);
 }
 
 /// The place of the field that a byte of a superblock belongs to.
@@ -57,8 +57,8 @@ fn field_of(place: usize) -> usize
     ensures below { result ≤ place }
 {
     match place {
-        16..32 => 16,
-        0..64 => place / 4 * 4,
+        UUID_PLACE..GEOMETRY_PLACE => UUID_PLACE,
+        0..SUPER_BYTES => place / 4 * 4,
         _ => place,
     }
 }
@@ -67,7 +67,6 @@ fn read_super(bytes: &[u8]) -> Super
     requires { length bytes.now ≡ BLOCK_BYTES }
     ensures held { result ≡ super_in bytes.now }
     ensures valid { IsSuper result }
-    ensures again { (v : Super) → IsSuper v → bytes.now ≡ super_block v → result ≡ v }
 {
     Super {
         uuid: uuid_at(bytes, UUID_PLACE),

@@ -2,10 +2,10 @@
 //! by another program.
 
 use crate::codec::seal;
-use crate::layout::{BLOCK_SEAL, CORE_BYTES, CORE_SEAL, FREE_MAP_BYTES};
+use crate::layout::{BLOCK_CRC, CORE_BYTES, CORE_CRC, FREE_MAP_BYTES};
 use crate::{
     Core, GroupHead, HeaderFault, Super, fresh_block, put_core, put_group, put_super, take_core,
-    take_group, take_super,
+    take_core_bytes, take_group, take_super,
 };
 use std::process::Abort;
 use uuid::Uuid;
@@ -228,6 +228,11 @@ fn written_out(rt: &impl Abort, rows: Rows) -> [u8; BLOCK_BYTES] {
     block
 }
 
+/// The core that the front of a block holds.
+fn core_within(block: &[u8; BLOCK_BYTES]) -> Result<Core, usize> {
+    take_core_bytes(&block[..CORE_BYTES], FileNo(31), &identifier())
+}
+
 #[test]
 fn writes_and_takes_headers(rt: HostRuntime) {
     let uuid = identifier();
@@ -260,6 +265,7 @@ fn writes_and_takes_headers(rt: HostRuntime) {
     put_core(&core, &mut block);
     assert_eq!(rt; block.as_slice(), written_out(&rt, CORE).as_slice());
     assert_eq!(rt; take_core(&block, FileNo(31), &uuid), Ok(core));
+    assert_eq!(rt; core_within(&block), Ok(core));
 }
 
 #[test]
@@ -301,7 +307,7 @@ fn changed(rt: &impl Abort, rows: Rows, place: usize, byte: u8) -> [u8; BLOCK_BY
 }
 
 fn seal_core(block: &mut [u8; BLOCK_BYTES]) {
-    seal(&mut block[..CORE_BYTES], CORE_SEAL);
+    seal(&mut block[..CORE_BYTES], CORE_CRC);
 }
 
 #[test]
@@ -326,7 +332,7 @@ fn names_the_first_wrong_field(rt: HostRuntime) {
                 })
             );
         }
-        seal(&mut block, BLOCK_SEAL);
+        seal(&mut block, BLOCK_CRC);
         assert_eq!(rt;
             take_super(&block),
             Err(HeaderFault { block: 0, field }),
@@ -344,7 +350,7 @@ fn names_the_first_wrong_field(rt: HostRuntime) {
         (200, 1, 200),
     ] {
         let mut block = changed(&rt, GROUP, place, byte);
-        seal(&mut block, BLOCK_SEAL);
+        seal(&mut block, BLOCK_CRC);
         let wanted = HeaderFault {
             block: 776 + 2048 * 3,
             field,

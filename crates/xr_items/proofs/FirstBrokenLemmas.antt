@@ -1,6 +1,6 @@
 -- The first of a list of tests that fails.
 use Rattle.std.proofs.Common.{◌≡◌, inl, inr, ℕ, zero, suc, ◌<◌, Bool, true, false, List, [], ◌∷◌, length, get_or, IsTrue, refl, arith}
-use Rattle.xr_items.specs.FirstBroken.{AllKept, IsFirstBroken}
+use Rattle.xr_items.specs.Taking.{AllKept, IsFirstBroken}
 
 pub all_kept : (rows : List (ℕ × Bool)) → ((k : ℕ) (d : ℕ × Bool) → k < length rows → (get_or rows k d).1 ≡ true) → AllKept rows
 all_kept [] each = tt

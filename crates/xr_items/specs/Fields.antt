@@ -19,9 +19,9 @@ abbrev pub field_bytes : Field → List ℕ
 field_bytes field = little_bytes (width field) (number field)
 
 -- the bytes of the fields, and how many they are
-unfoldable pub laid : List Field → List ℕ
-laid [] = []
-laid (field ∷ fields) = field_bytes field ++ laid fields
+unfoldable pub bytes_of_fields : List Field → List ℕ
+bytes_of_fields [] = []
+bytes_of_fields (field ∷ fields) = field_bytes field ++ bytes_of_fields fields
 
 abbrev pub widths : List Field → ℕ
 widths [] = 0

@@ -1,6 +1,6 @@
 -- Which byte is named where a region isn't an item: the rules of its fields, in the order of the fields, of which the
 -- first that is broken counts. A rule on two fields stands at the later one.
-use Rattle.std.specs.Prelude.{◌≡◌, ◌≢◌, ◌⊎◌, ℕ, ◌+◌, ◌<◌, ◌≤◌, Bool, List, [], ◌∷◌, length, slice_index, IsTrue, ⊤}
+use Rattle.std.specs.Prelude.{◌≡◌, ◌≢◌, ◌⊎◌, ℕ, ◌+◌, ◌<◌, ◌≤◌, List, length, slice_index}
 use Rattle.xr_base.specs.Address.{IsData, IsGoodRun, address_of}
 use Rattle.xr_base.specs.declared.address.Run.{Run}
 use Rattle.xr_base.specs.declared.geometry.TheConstants.{OFFSETS, BLOCK_SECTORS, OWN_COW}
@@ -13,11 +13,9 @@ use Rattle.xr_items.specs.declared.item.ItemKind.{ItemKind}
 use Rattle.xr_items.specs.declared.item.ItemKind.TheVariants.{Buf, Inode, Efi, Efd, Rui, Rud, Cui, Cud, Bui, Bud, Xmi, Xmd}
 use Rattle.xr_items.specs.declared.item.ItemFault.{ItemFault}
 use Rattle.xr_items.specs.declared.item.ItemFault.TheVariants.{ItemType, Size, Field}
-use Rattle.xr_items.specs.declared.fields.Field.TheVariants.{Word, Long}
 use Rattle.xr_base.specs.Fields.{le64_at, le32_at, le16_at}
-use Rattle.xr_items.specs.Items.{own_code, count_code, map_code, kind_of, item_body, HoldsBody, type_code, regions_of, length_of}
-use Rattle.xr_items.specs.declared.item.Item.{Item}
-use Rattle.xr_items.specs.Valid.{IsId, IsInode, IsBufferSector, SuitsOwner, IsItem}
+use Rattle.xr_items.specs.Items.{own_code, count_code, map_code, type_code, regions_of, length_of}
+use Rattle.xr_items.specs.Valid.{IsId, IsInode, IsBufferSector, SuitsOwner}
 
 -- no rule is left
 abbrev pub NamesNone : ℕ → Type 0
@@ -32,15 +30,6 @@ abbrev pub NamesZeros : ℕ → List ℕ → (ℕ → Type 0) → ℕ → Type 0
 NamesZeros at bytes Later place =
     IsFirst (λ (k : ℕ). (at ≤ k) × (k < at + 4) × (slice_index bytes k ≢ 0)) place
     ⊎ ((le32_at bytes at ≡ 0) × Later place)
-
--- tests of fields, one after the other: all hold, or a place is that of the first that doesn't
-abbrev pub AllKept : List (ℕ × Bool) → Type 0
-AllKept [] = ⊤
-AllKept (row ∷ rows) = IsTrue row.1 × AllKept rows
-
-abbrev pub IsFirstBroken : List (ℕ × Bool) → ℕ → Type 0
-IsFirstBroken [] place = ⊥
-IsFirstBroken (row ∷ rows) place = NamesRule row.0 (IsTrue row.1) (IsFirstBroken rows) place
 
 -- a run by the numbers of its fields
 abbrev pub run_of : ℕ → ℕ → Run
@@ -72,7 +61,7 @@ pub record AreSwappable (ino other off other_off len : ℕ) : Type 0 where
   pub second_range : other_off + len ≤ OFFSETS
   pub apart : ino ≡ other → (off + len ≤ other_off) ⊎ (other_off + len ≤ off)
 
--- the rules of each form, behind type and regions
+-- the rules of each form, after type and regions
 abbrev pub NamesBufField : List ℕ → ℕ → Type 0
 NamesBufField bytes =
     NamesRule BUF_FLAGS_PLACE (le16_at bytes BUF_FLAGS_PLACE ≡ 0)
@@ -151,7 +140,7 @@ NamesItemField Xmd bytes = NamesShortField bytes
 
 -- a region of a kind of item, by its type; and one that also has the length and the number of regions of its kind
 pub record IsOfKind (kind : ItemKind) (bytes : List ℕ) : Type 0 where
-  pub room : 4 ≤ length bytes
+  pub room : EXTENTS_PLACE ≤ length bytes
   pub type_is : type_code kind ≡ le16_at bytes 0
 
 pub record IsItemFramed (kind : ItemKind) (bytes : List ℕ) : Type 0 where
@@ -166,13 +155,3 @@ RefusesItem bytes (Size place) =
     ((kind : ItemKind) × IsOfKind kind bytes × (length bytes ≢ length_of kind) × (place ≡ 0))
     ⊎ ((kind : ItemKind) × IsOfKind kind bytes × (length bytes ≡ length_of kind) × (le16_at bytes REGIONS_PLACE ≢ regions_of kind) × (place ≡ REGIONS_PLACE))
 RefusesItem bytes (Field place) = (kind : ItemKind) × IsItemFramed kind bytes × NamesItemField kind bytes place
-
--- a valid item of this kind whose fields stand there behind type and regions
-pub record IsBodyOf (kind : ItemKind) (bytes : List ℕ) (item : Item) : Type 0 where
-  pub of_kind : kind_of item ≡ kind
-  pub valid : IsItem item
-  pub fields : HoldsBody (item_body item) bytes
-
--- the fields of an item that names a run alone, up to its flags
-abbrev pub HoldsRun : ℕ → Run → List ℕ → Type 0
-HoldsRun id run bytes = HoldsBody (Word 1 ∷ Long id ∷ Long run.start.0 ∷ Word run.len ∷ []) bytes

@@ -25,11 +25,12 @@ use Rattle.xr_items.specs.declared.fields.Field.TheVariants.{Half}
 use Rattle.xr_base.specs.declared.geometry.TheConstants.{FIRST_INODE}
 use Rattle.xr_items.specs.declared.layout.TheConstants.{LONGEST_REGION, BUF_TYPE, INODE_TYPE, EFI_TYPE, EFD_TYPE, RUI_TYPE, RUD_TYPE, CUI_TYPE, CUD_TYPE, BUI_TYPE, BUD_TYPE, XMI_TYPE, XMD_TYPE}
 use Rattle.xr_items.specs.Fields.{AreFields, widths}
-use Rattle.xr_base.specs.Fields.{le64_at, le32_at, le_at}
-use Rattle.xr_items.specs.FirstBroken.{IsBodyOf, IsOfKind, NamesSwapRange, NamesFreeField, NamesNone, NamesRule, run_of, NamesZeros, NamesItemField, RefusesItem, IsItemFramed}
+use Rattle.xr_base.specs.Fields.{AreBytes, le64_at, le32_at, le_at}
+use Rattle.xr_items.specs.FirstBroken.{IsOfKind, NamesSwapRange, NamesFreeField, NamesNone, NamesRule, run_of, NamesZeros, NamesItemField, RefusesItem, IsItemFramed}
+use Rattle.xr_items.specs.Taking.{IsBodyOf}
 use Rattle.xr_items.specs.Items.{HoldsBody, item_body, item_bytes, item_fields, kind_of, mapping_body, run_body, short_body, length_of, regions_of, type_code, own_code, count_code, map_code}
 use Rattle.xr_items.specs.Valid.{IsBufferSector, IsItem, IsId, IsInode, SuitsOwner, KeepsOffsets}
-use Rattle.xr_items.specs.FieldLaws.{AreBytes, Fit, fields_from_laid, laid_from_fields, length-laid}
+use Rattle.xr_items.specs.FieldLaws.{Fit, fields_from_bytes, bytes_from_fields, length-bytes_of_fields}
 
 pub length-item : (item : Item) → widths (item_fields item) ≡ length_of (kind_of item)
 length-item (Buf sector) = refl
@@ -239,7 +240,7 @@ longest : (kind : ItemKind) → length_of kind ≤ LONGEST_REGION
 longest kind = grind (arith, common_steps)
 
 pub item_within : (item : Item) → length (item_bytes item) ≤ LONGEST_REGION
-item_within item = omega (arith, length-laid (item_fields item), length-item item, longest (kind_of item))
+item_within item = omega (arith, length-bytes_of_fields (item_fields item), length-item item, longest (kind_of item))
 
 pub same_kind_of : (bytes : List ℕ) (one two : ItemKind) → IsOfKind one bytes → IsOfKind two bytes → one ≡ two
 same_kind_of bytes one two first second = same_kind one two (first.type_is ∙ sym second.type_is)
@@ -290,18 +291,18 @@ rules_once item_kind.Xmd bytes one two first second = short_once bytes (IsId (le
 
 -- a valid item's bytes, and bytes that hold one
 pub held_item : (item : Item) (bytes : List ℕ) → IsItem item → bytes ≡ item_bytes item → AreFields (item_fields item) 0 bytes
-held_item item bytes valid is = fields_from_laid (item_fields item) 0 bytes (fit_item item valid) is
+held_item item bytes valid is = fields_from_bytes (item_fields item) 0 bytes (fit_item item valid) is
 
 pub framed_item : (item : Item) (bytes : List ℕ) → IsItem item → bytes ≡ item_bytes item → IsItemFramed (kind_of item) bytes
 framed_item item bytes valid is =
     let held = held_item item bytes valid is in
-    let long : length bytes ≡ length_of (kind_of item) = ap length is ∙ length-laid (item_fields item) ∙ length-item item in
+    let long : length bytes ≡ length_of (kind_of item) = ap length is ∙ length-bytes_of_fields (item_fields item) ∙ length-item item in
     record { of_kind = record { room = omega (arith, long, room_of (kind_of item)); type_is = sym held.0 }; long = long; regions = held.1.0 }
 
 pub item_from : (item : Item) (kind : ItemKind) (bytes : List ℕ) → AreBytes bytes → IsItemFramed kind bytes → IsBodyOf kind bytes item → bytes ≡ item_bytes item
 item_from item kind bytes all framed body =
     let long : length bytes ≡ 0 + widths (item_fields item) = framed.long ∙ ap length_of (sym body.of_kind) ∙ sym (length-item item) ∙ omega arith in
-    laid_from_fields (item_fields item) 0 bytes all long
+    bytes_from_fields (item_fields item) 0 bytes all long
     (sym framed.of_kind.type_is ∙ ap type_code (sym body.of_kind), (framed.regions ∙ ap regions_of (sym body.of_kind), body.fields))
 
 -- a region is refused in one way, and never where it is an item's

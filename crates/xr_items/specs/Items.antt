@@ -5,7 +5,7 @@ use Rattle.xr_base.specs.declared.geometry.TheConstants.{BLOCK_BYTES, FIRST_INOD
 use Rattle.xr_headers.specs.declared.layout.TheConstants.{CORE_BYTES}
 use Rattle.xr_items.specs.declared.fields.Field.{Field}
 use Rattle.xr_items.specs.declared.fields.Field.TheVariants.{Half, Word, Long}
-use Rattle.xr_items.specs.declared.layout.TheConstants.{BUF_TYPE, INODE_TYPE, EFI_TYPE, EFD_TYPE, RUI_TYPE, RUD_TYPE, CUI_TYPE, CUD_TYPE, BUI_TYPE, BUD_TYPE, XMI_TYPE, XMD_TYPE, WHOLE_BLOCK}
+use Rattle.xr_items.specs.declared.layout.TheConstants.{BUF_TYPE, INODE_TYPE, EFI_TYPE, EFD_TYPE, RUI_TYPE, RUD_TYPE, CUI_TYPE, CUD_TYPE, BUI_TYPE, BUD_TYPE, XMI_TYPE, XMD_TYPE, WHOLE_BLOCK, BUF_BYTES, MAP_BYTES, RUN_BYTES, SHORT_BYTES, SWAP_BYTES, EXTENTS_PLACE}
 use Rattle.xr_items.specs.declared.work.OwnKind.{OwnKind}
 use Rattle.xr_items.specs.declared.work.OwnKind.TheVariants as own_kind
 use Rattle.xr_items.specs.declared.work.CountKind.{CountKind}
@@ -20,7 +20,7 @@ use Rattle.xr_items.specs.declared.item.DoneOf.{DoneOf}
 use Rattle.xr_items.specs.declared.item.DoneOf.TheVariants.{Efd, Rud, Cud, Bud, Xmd}
 use Rattle.xr_items.specs.declared.item.ItemKind.{ItemKind}
 use Rattle.xr_items.specs.declared.item.ItemKind.TheVariants as item_kind
-use Rattle.xr_items.specs.Fields.{AreFields, laid}
+use Rattle.xr_items.specs.Fields.{AreFields, bytes_of_fields}
 
 -- the numbers of the kinds of work
 abbrev pub own_code : OwnKind → ℕ
@@ -81,16 +81,16 @@ regions_of item_kind.Inode = 2
 regions_of _ = 1
 
 abbrev pub length_of : ItemKind → ℕ
-length_of item_kind.Buf = 24
-length_of item_kind.Efi = 32
-length_of item_kind.Efd = 32
-length_of item_kind.Cui = 32
-length_of item_kind.Rui = 48
-length_of item_kind.Bui = 48
-length_of item_kind.Xmi = 56
-length_of _ = 16
+length_of item_kind.Buf = BUF_BYTES
+length_of item_kind.Efi = RUN_BYTES
+length_of item_kind.Efd = RUN_BYTES
+length_of item_kind.Cui = RUN_BYTES
+length_of item_kind.Rui = MAP_BYTES
+length_of item_kind.Bui = MAP_BYTES
+length_of item_kind.Xmi = SWAP_BYTES
+length_of _ = SHORT_BYTES
 
--- what stands behind type and regions: zeros and a number; or one extent, of a run; or one extent, of a mapped run
+-- what stands after type and regions: zeros and a number; or one extent, of a run; or one extent, of a mapped run
 abbrev pub short_body : ℕ → List Field
 short_body n = Word 0 ∷ Long n ∷ []
 
@@ -119,16 +119,16 @@ item_body (Inode ino) = short_body ino
 item_body (Begin id work) = work_body id work
 item_body (Done id done) = done_body id done
 
--- these fields stand behind type and number of regions
+-- these fields stand after type and number of regions
 abbrev pub HoldsBody : List Field → List ℕ → Type 0
-HoldsBody fields bytes = AreFields fields 4 bytes
+HoldsBody fields bytes = AreFields fields EXTENTS_PLACE bytes
 
 -- an item's format region
 abbrev pub item_fields : Item → List Field
 item_fields item = Half (type_code (kind_of item)) ∷ Half (regions_of (kind_of item)) ∷ item_body item
 
 abbrev pub item_bytes : Item → List ℕ
-item_bytes item = laid (item_fields item)
+item_bytes item = bytes_of_fields (item_fields item)
 
 -- the length of the region that follows
 abbrev pub following : Item → ℕ

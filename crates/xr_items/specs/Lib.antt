@@ -3,5 +3,8 @@ pub mod Fields
 pub mod FirstBroken
 pub mod ItemLaws
 pub mod Items
+pub mod Limits
+pub mod Taking
+pub mod TransFields
 pub mod Transactions
 pub mod Valid

@@ -1,8 +1,7 @@
 -- What a transaction holds, and which blocks it may change.
-use Rattle.std.specs.Prelude.{◌≡◌, ◌≢◌, ◌⊎◌, ℕ, ◌+◌, ◌-◌, ◌/◌, ◌%◌, ◌<◌, ◌≤◌, List, [], length, vec_capacity}
-use Rattle.std.specs.Global.{Vec}
+use Rattle.std.specs.Prelude.{◌≡◌, ◌≢◌, ◌⊎◌, ℕ, ◌+◌, ◌-◌, ◌/◌, ◌%◌, ◌<◌, ◌≤◌, List, [], length}
 use Rattle.std.specs.List.{All, AllPairs}
-use Rattle.xr_base.specs.declared.geometry.TheConstants.{FIRST_FILE_BLOCK, FIRST_GROUP_BLOCK, FILE_BLOCKS, FIRST_INODE, UUID_BYTES}
+use Rattle.xr_base.specs.declared.geometry.TheConstants.{BLOCK_BYTES, FIRST_FILE_BLOCK, FIRST_GROUP_BLOCK, FILE_BLOCKS, FIRST_INODE, UUID_BYTES}
 use Rattle.xr_headers.specs.declared.file_core.Core.{Core}
 use Rattle.xr_headers.specs.Headers.{IsCore, core_block}
 use Rattle.xr_items.specs.declared.layout.TheConstants.{TRANS_BLOCKS, TRANS_WORKS, TRANS_SLOTS}
@@ -17,9 +16,6 @@ pub record TransView : Type 0 where
 
 abbrev pub no_trans : TransView
 no_trans = record { blocks = []; works = []; done = [] }
-
-abbrev pub trans_of : Vec Logged → Vec Work → Vec ℕ → TransView
-trans_of blocks works done = record { blocks = blocks.items; works = works.items; done = done.items }
 
 abbrev pub logged : ℕ → List ℕ → Logged
 logged block image = record { block = block; image = image }
@@ -45,17 +41,13 @@ IsLogged block = IsBufferBlock block.block ⊎ (IsCoreBlock block.block × IsCor
 abbrev pub IsNotAmong : ℕ → List Logged → Type 0
 IsNotAmong block blocks = All (λ (other : Logged). other.block ≢ block) blocks
 
--- what each transaction keeps: its blocks are ones that it may change, each once, its works are valid, and all fit
+-- what each transaction keeps: its blocks are ones that it may change, each once and with whole images, its works are valid,
+-- and all fit
 pub record IsTrans (trans : TransView) : Type 0 where
   pub logged_blocks : All IsLogged trans.blocks
+  pub whole_images : All (λ (block : Logged). length block.image ≡ BLOCK_BYTES) trans.blocks
   pub distinct : AllPairs (λ (one two : Logged). one.block ≢ two.block) trans.blocks
   pub valid_works : All IsWork trans.works
   pub blocks_fit : length trans.blocks ≤ TRANS_BLOCKS
   pub works_fit : length trans.works ≤ TRANS_WORKS
   pub done_fit : length trans.done ≤ TRANS_SLOTS
-
--- the memory that was taken is for all that a transaction has room for
-pub record HasRoom (blocks : Vec Logged) (works : Vec Work) (done : Vec ℕ) : Type 0 where
-  pub blocks_room : TRANS_BLOCKS ≤ vec_capacity blocks
-  pub works_room : TRANS_WORKS ≤ vec_capacity works
-  pub done_room : TRANS_SLOTS ≤ vec_capacity done

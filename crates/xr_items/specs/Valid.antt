@@ -24,7 +24,7 @@ IsInode ino = (FIRST_INODE ≤ ino) × (ino < FIRST_INODE + FILES)
 pub record IsFilePoolBlock (block : ℕ) : Type 0 where
   pub first : FIRST_FILE_BLOCK ≤ block
   pub last : block < FIRST_GROUP_BLOCK
-  pub behind_core : 1 ≤ (block - FIRST_FILE_BLOCK) % FILE_BLOCKS
+  pub after_core : 1 ≤ (block - FIRST_FILE_BLOCK) % FILE_BLOCKS
 
 pub record IsGroupBlock (block : ℕ) : Type 0 where
   pub first : FIRST_GROUP_BLOCK ≤ block

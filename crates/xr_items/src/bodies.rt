@@ -1,7 +1,12 @@
-//! What stands behind type and number of regions, by the kind of item.
+//! What stands after type and number of regions, by the kind of item.
 ghost use Rattle.std.specs.Prelude.{◌≡◌, MatchResult, length};
-ghost use Rattle.xr_items.specs.FirstBroken.{NamesBufField, NamesInodeField, NamesShortField, NamesFreeField, NamesCountField, NamesOwnField, NamesMapField, NamesSwapField, IsBodyOf, NamesOpening, NamesRun, NamesNone, HoldsRun, NamesItemField};
+ghost use Rattle.xr_items.specs.FirstBroken.{NamesBufField, NamesInodeField, NamesShortField, NamesFreeField, NamesCountField};
+ghost use Rattle.xr_items.specs.FirstBroken.{NamesOwnField, NamesMapField, NamesSwapField, NamesOpening, NamesRun, NamesNone};
+ghost use Rattle.xr_items.specs.Taking.{IsBodyOf};
+ghost use Rattle.xr_items.specs.FirstBroken.{NamesItemField};
+ghost use Rattle.xr_items.specs.Taking.{HoldsRun};
 ghost use Rattle.xr_items.specs.Items.{HoldsBody, length_of, short_body, run_body};
+ghost use Rattle.xr_items.specs.declared.layout.TheConstants.{RUN_BYTES, SHORT_BYTES};
 ghost use Rattle.xr_items.specs.Valid.{IsId, IsInode};
 ghost use Rattle.xr_items.specs.declared.item.Item.TheVariants.{Done};
 ghost use Rattle.xr_base.specs.Address.{IsGoodRun};
@@ -41,7 +46,7 @@ fn take_buf(region: &[u8]) -> Result<Item, usize>
 }
 
 fn take_inode(region: &[u8]) -> Result<u64, usize>
-    requires { length region.now ≡ 16 }
+    requires { length region.now ≡ SHORT_BYTES }
     ensures { MatchResult result (λ ino. IsInode ino × HoldsBody (short_body ino) region.now) (NamesInodeField region.now) }
 {
     take_zeros(region, EXTENTS_PLACE)?;
@@ -52,7 +57,7 @@ fn take_inode(region: &[u8]) -> Result<u64, usize>
 
 /// The id of a done item that holds nothing else.
 fn take_short(region: &[u8]) -> Result<u64, usize>
-    requires { length region.now ≡ 16 }
+    requires { length region.now ≡ SHORT_BYTES }
     ensures { MatchResult result (λ id. IsId id × HoldsBody (short_body id) region.now) (NamesShortField region.now) }
 {
     take_zeros(region, EXTENTS_PLACE)?;
@@ -63,8 +68,9 @@ fn take_short(region: &[u8]) -> Result<u64, usize>
 
 /// The id and the run of an item that names a run alone.
 fn take_run(region: &[u8]) -> Result<(u64, Run), usize>
-    requires { length region.now ≡ 32 }
-    ensures { MatchResult result (λ taken. IsId taken.0 × IsGoodRun taken.1 × HoldsRun taken.0 taken.1 region.now) (NamesOpening region.now (NamesRun region.now NamesNone)) }
+    requires { length region.now ≡ RUN_BYTES }
+    ensures { MatchResult result (λ taken. IsId taken.0 × IsGoodRun taken.1 × HoldsRun taken.0 taken.1 region.now)
+        (NamesOpening region.now (NamesRun region.now NamesNone)) }
 {
     let id = le64_at(region, ID_PLACE);
     let start = le64_at(region, RUN_START_PLACE);
@@ -80,8 +86,9 @@ fn take_run(region: &[u8]) -> Result<(u64, Run), usize>
 
 /// The id and the run of an item that frees, or freed, a run.
 fn take_free(region: &[u8]) -> Result<(u64, Run), usize>
-    requires { length region.now ≡ 32 }
-    ensures { MatchResult result (λ taken. IsId taken.0 × IsGoodRun taken.1 × HoldsBody (run_body taken.0 taken.1 0) region.now) (NamesFreeField region.now) }
+    requires { length region.now ≡ RUN_BYTES }
+    ensures { MatchResult result (λ taken. IsId taken.0 × IsGoodRun taken.1 × HoldsBody (run_body taken.0 taken.1 0) region.now)
+        (NamesFreeField region.now) }
 {
     let taken = take_run(region)?;
     take_zeros(region, RUN_FLAGS_PLACE)?;

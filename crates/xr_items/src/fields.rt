@@ -1,7 +1,7 @@
 //! Numbers of two, four and eight bytes, the lowest byte first, written one after the other.
 ghost use Rattle.std.specs.Prelude.{◌≡◌, ◌+◌, ◌≤◌, ◌++◌, length, drop};
 ghost use Rattle.xr_base.specs.Image.{overlaid};
-ghost use Rattle.xr_items.specs.Fields.{field_bytes, width, widths, laid};
+ghost use Rattle.xr_items.specs.Fields.{field_bytes, width, widths, bytes_of_fields};
 
 use byteorder::{ByteOrder, LittleEndian};
 
@@ -26,7 +26,7 @@ fn width_of(field: Field) -> usize
     }
 }
 
-/// Writes a field and answers the place behind it.
+/// Writes a field and answers the place after it.
 fn put_field(field: Field, place: usize, out: &mut [u8]) -> usize
     requires { place + width field ≤ length out.old }
     ensures written { out.new ≡ overlaid place (field_bytes field) out.old }
@@ -45,8 +45,8 @@ fn put_field(field: Field, place: usize, out: &mut [u8]) -> usize
 /// Writes the fields to the front and answers their length.
 pub(crate) fn put_fields(fields: &[Field], out: &mut [u8]) -> usize
     requires { widths fields.now ≤ length out.old }
-    ensures written { out.new ≡ laid fields.now ++ drop result out.old }
-    ensures length { result ≡ length (laid fields.now) }
+    ensures written { out.new ≡ bytes_of_fields fields.now ++ drop result out.old }
+    ensures length { result ≡ length (bytes_of_fields fields.now) }
 {
     let mut place = 0;
     for field in fields {

@@ -3,8 +3,8 @@ ghost use Rattle.std.specs.Prelude.{◌≡◌, MatchOption};
 ghost use Rattle.xr_items.specs.Items.{type_code, regions_of, length_of, following};
 
 use crate::layout::{
-    BUD_TYPE, BUF_TYPE, BUI_TYPE, CUD_TYPE, CUI_TYPE, EFD_TYPE, EFI_TYPE, INODE_TYPE, RUD_TYPE,
-    RUI_TYPE, XMD_TYPE, XMI_TYPE,
+    BUD_TYPE, BUF_BYTES, BUF_TYPE, BUI_TYPE, CUD_TYPE, CUI_TYPE, EFD_TYPE, EFI_TYPE, INODE_TYPE,
+    MAP_BYTES, RUD_TYPE, RUI_TYPE, RUN_BYTES, SHORT_BYTES, SWAP_BYTES, XMD_TYPE, XMI_TYPE,
 };
 use crate::work::Work;
 use thiserror::Error;
@@ -105,11 +105,12 @@ impl ItemKind {
         ensures { result ≡ length_of self }
     {
         match self {
-            ItemKind::Inode | ItemKind::Rud | ItemKind::Cud | ItemKind::Bud | ItemKind::Xmd => 16,
-            ItemKind::Buf => 24,
-            ItemKind::Efi | ItemKind::Efd | ItemKind::Cui => 32,
-            ItemKind::Rui | ItemKind::Bui => 48,
-            ItemKind::Xmi => 56,
+            ItemKind::Inode | ItemKind::Rud | ItemKind::Cud | ItemKind::Bud | ItemKind::Xmd =>
+                SHORT_BYTES,
+            ItemKind::Buf => BUF_BYTES,
+            ItemKind::Efi | ItemKind::Efd | ItemKind::Cui => RUN_BYTES,
+            ItemKind::Rui | ItemKind::Bui => MAP_BYTES,
+            ItemKind::Xmi => SWAP_BYTES,
         }
     }
 }

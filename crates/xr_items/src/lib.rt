@@ -5,6 +5,7 @@
 mod bodies;
 mod fields;
 mod item;
+mod laws;
 pub mod layout;
 mod reading;
 mod rules;
@@ -15,6 +16,7 @@ mod work;
 mod writing;
 
 pub use item::{DoneOf, Item, ItemFault, follows};
+pub use laws::item_limits;
 pub use reading::take;
 pub use trans::{Logged, Placed, Trans};
 pub use work::{CountKind, MapKind, OwnKind, Work};

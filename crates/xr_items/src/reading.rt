@@ -6,7 +6,7 @@ ghost use Rattle.xr_items.specs.Valid.{IsItem};
 
 use crate::bodies::take_body;
 use crate::item::{Item, ItemFault, ItemKind};
-use crate::layout::REGIONS_PLACE;
+use crate::layout::{EXTENTS_PLACE, REGIONS_PLACE};
 use xr_base::le16_at;
 
 /// The kind of item, by a type, a length and a number of regions that go together.
@@ -14,7 +14,7 @@ fn take_kind(region: &[u8]) -> Result<ItemKind, ItemFault>
     ensures { MatchResult result (λ kind. IsItemFramed kind region.now) (RefusesItem region.now) }
 {
     let unknown = ItemFault::ItemType { place: 0 };
-    if region.len() < 4 {
+    if region.len() < EXTENTS_PLACE {
         return Err(unknown);
     }
     let kind = ItemKind::of_code(le16_at(region, 0)).ok_or(unknown)?;

@@ -3,7 +3,8 @@ ghost use Rattle.std.specs.Prelude.{◌≡◌, ◌≢◌, ◌+◌, ◌<◌, ◌�
 ghost use Rattle.xr_base.specs.Address.{IsData, IsGoodRun, address_of};
 ghost use Rattle.xr_headers.specs.FirstWrong.{IsFirst};
 ghost use Rattle.xr_base.specs.Fields.{le32_at};
-ghost use Rattle.xr_items.specs.FirstBroken.{AllKept, IsFirstBroken, MayBeginAt, EndsInOffsets, AreSwappable, run_of, IsKnownOwner};
+ghost use Rattle.xr_items.specs.FirstBroken.{MayBeginAt, EndsInOffsets, AreSwappable, run_of, IsKnownOwner};
+ghost use Rattle.xr_items.specs.Taking.{AllKept, IsFirstBroken};
 ghost use Rattle.xr_items.specs.Valid.{IsId, IsInode, IsBufferBlock, IsBufferSector};
 ghost use Rattle.xr_base.specs.declared.geometry.TheConstants.{OFFSETS};
 

@@ -36,13 +36,14 @@ pub struct Trans {
 }
 
 impl Model for Trans {
-    ghost use Rattle.xr_items.specs.Transactions.{TransView, IsTrans, HasRoom, trans_of};
+    ghost use Rattle.xr_items.specs.TransFields.{HasCapacity, trans_of};
+    ghost use Rattle.xr_items.specs.Transactions.{TransView, IsTrans};
 
     ghost Value = { TransView };
 
     ghost view = { λ t. trans_of t.blocks t.works t.done };
 
-    ghost invariant = { λ t. IsTrans (trans_of t.blocks t.works t.done) × HasRoom t.blocks t.works t.done };
+    ghost invariant = { λ t. IsTrans (trans_of t.blocks t.works t.done) × HasCapacity t.blocks t.works t.done };
 }
 
 fn whole_block(image: &[u8]) -> [u8; BLOCK_BYTES]

@@ -1,6 +1,6 @@
 //! Items written as format regions.
 ghost use Rattle.std.specs.Prelude.{◌≡◌, ◌≤◌, ◌++◌, ◌∷◌, length, drop};
-ghost use Rattle.xr_items.specs.Fields.{laid};
+ghost use Rattle.xr_items.specs.Fields.{bytes_of_fields};
 ghost use Rattle.xr_items.specs.Items.{item_bytes, short_body, run_body, mapping_body};
 ghost use Rattle.xr_items.specs.Valid.{IsItem, IsWork};
 ghost use Rattle.xr_items.specs.declared.fields.Field.TheVariants.{Half};
@@ -19,8 +19,8 @@ use xr_base::geometry::{BLOCK_SECTORS, FIRST_INODE};
 
 fn put_short(code: u16, regions: u16, number: u64, out: &mut [u8]) -> usize
     requires { LONGEST_REGION ≤ length out.old }
-    ensures written { out.new ≡ laid (Half code ∷ Half regions ∷ short_body number) ++ drop result out.old }
-    ensures length { result ≡ length (laid (Half code ∷ Half regions ∷ short_body number)) }
+    ensures written { out.new ≡ bytes_of_fields (Half code ∷ Half regions ∷ short_body number) ++ drop result out.old }
+    ensures length { result ≡ length (bytes_of_fields (Half code ∷ Half regions ∷ short_body number)) }
 {
     put_fields(
         &[
@@ -35,8 +35,8 @@ fn put_short(code: u16, regions: u16, number: u64, out: &mut [u8]) -> usize
 
 fn put_run(code: u16, id: u64, run: &Run, flags: u32, out: &mut [u8]) -> usize
     requires { LONGEST_REGION ≤ length out.old }
-    ensures written { out.new ≡ laid (Half code ∷ Half 1 ∷ run_body id run.now flags) ++ drop result out.old }
-    ensures length { result ≡ length (laid (Half code ∷ Half 1 ∷ run_body id run.now flags)) }
+    ensures written { out.new ≡ bytes_of_fields (Half code ∷ Half 1 ∷ run_body id run.now flags) ++ drop result out.old }
+    ensures length { result ≡ length (bytes_of_fields (Half code ∷ Half 1 ∷ run_body id run.now flags)) }
 {
     put_fields(
         &[
@@ -63,8 +63,8 @@ fn put_mapping(
     out: &mut [u8],
 ) -> usize
     requires { LONGEST_REGION ≤ length out.old }
-    ensures written { out.new ≡ laid (Half code ∷ Half 1 ∷ mapping_body id owner off run.now flags) ++ drop result out.old }
-    ensures length { result ≡ length (laid (Half code ∷ Half 1 ∷ mapping_body id owner off run.now flags)) }
+    ensures written { out.new ≡ bytes_of_fields (Half code ∷ Half 1 ∷ mapping_body id owner off run.now flags) ++ drop result out.old }
+    ensures length { result ≡ length (bytes_of_fields (Half code ∷ Half 1 ∷ mapping_body id owner off run.now flags)) }
 {
     put_fields(
         &[

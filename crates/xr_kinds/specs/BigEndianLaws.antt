@@ -67,13 +67,13 @@ taken_bytes n bytes all i = ⊎_elim
     omega arith)
     (cases_lt i n)
 
--- a field in front, and the fields behind it
+-- a field in front, and the fields after it
 pub field_again : (n : ℕ) (bytes rest : List ℕ) → n ≤ length bytes → AreBytes bytes → rest ≡ drop n bytes → big_bytes n (big_number n bytes) ++ rest ≡ bytes
 field_again n bytes rest room all is =
     let front : big_number n bytes ≡ big_number n (take n bytes) = sym (big_from-take 0 n n bytes (omega arith)) in
     rw (front, bytes_again n (take n bytes) (length-take-le n bytes room) (taken_bytes n bytes all), is) (take-append-drop n bytes)
 
--- what stands behind a field
+-- what stands after a field
 pub drop-bytes : (n x : ℕ) (rest : List ℕ) → drop n (big_bytes n x ++ rest) ≡ rest
 drop-bytes n x rest = drop_at (big_bytes n x) rest n (length-bytes_high_first n x)
 

@@ -6,7 +6,7 @@ use Rattle.xr_kinds.specs.declared.span.Span.{Span}
 abbrev pub span : ℕ → ℕ → Span
 span start len = record { start = start; len = len }
 
--- the first number behind a run
+-- the first number after a run
 abbrev pub end_of : Span → ℕ
 end_of s = s.start + s.len
 

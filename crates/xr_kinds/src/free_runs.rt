@@ -47,8 +47,35 @@ fn take_span(bytes: &[u8]) -> Span
     }
 }
 
+impl From<Span> for ByBlock {
+    ghost use Rattle.xr_kinds.specs.FreeRuns.{by_block};
+
+    ghost from_gives = { λ span run. run ≡ by_block span };
+
+    fn from(span: Span) -> ByBlock {
+        ByBlock {
+            start: span.start,
+            len: span.len,
+        }
+    }
+}
+
+impl From<Span> for BySize {
+    ghost use Rattle.xr_kinds.specs.FreeRuns.{by_size};
+
+    ghost from_gives = { λ span run. run ≡ by_size span };
+
+    fn from(span: Span) -> BySize {
+        BySize {
+            start: span.start,
+            len: span.len,
+        }
+    }
+}
+
 impl ByBlock {
-    fn span(&self) -> Span
+    /// The run without its order.
+    pub fn span(&self) -> Span
         ensures { result ≡ block_span self.now }
     {
         Span {
@@ -59,7 +86,8 @@ impl ByBlock {
 }
 
 impl BySize {
-    fn span(&self) -> Span
+    /// The run without its order.
+    pub fn span(&self) -> Span
         ensures { result ≡ size_span self.now }
     {
         Span {
@@ -130,8 +158,7 @@ impl Record for ByBlock {
     }
 
     fn take(bytes: &[u8]) -> Option<Self> {
-        let Span { start, len } = take_span(bytes);
-        let run = ByBlock { start, len };
+        let run = ByBlock::from(take_span(bytes));
         if run.valid() { Some(run) } else { None }
     }
 
@@ -209,8 +236,7 @@ impl Record for BySize {
     }
 
     fn take(bytes: &[u8]) -> Option<Self> {
-        let Span { start, len } = take_span(bytes);
-        let run = BySize { start, len };
+        let run = BySize::from(take_span(bytes));
         if run.valid() { Some(run) } else { None }
     }
 

@@ -33,7 +33,7 @@ impl Reference {
         }
     }
 
-    /// The first block, behind all others where the blocks are staged.
+    /// The first block, after all others where the blocks are staged.
     fn first_word(&self) -> u64
         ensures { result ≡ first_word self.now }
     {

@@ -10,7 +10,7 @@ use std::cmp::Ordering;
 use xr_base::geometry::{FILES, FIRST_INODE, OFFSETS, OWN_COW};
 use xr_base::layout::REVERSE_MAGIC;
 
-/// The inode number behind the last file's.
+/// The inode number after the last file's.
 const INODES_END: u64 = FIRST_INODE + FILES as u64;
 
 /// Bytes of a key.

@@ -12,7 +12,7 @@ pub struct Span {
 }
 
 impl Span {
-    /// The first number behind the run.
+    /// The first number after the run.
     pub fn end(self) -> u64
         ensures { result ≡ end_of self }
     {

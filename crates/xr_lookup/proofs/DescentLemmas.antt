@@ -1,35 +1,30 @@
 -- What a lookup finds at a block that it comes to.
-use Rattle.std.proofs.Common.{◌≡◌, ℕ, zero, suc, ◌+◌, ◌-◌, ◌<◌, ◌≤◌, ◌&&◌, Bool, true, false, nat_lt, if◌then◌else◌, Option, Some, None, IfSome, List, [], reverse, length, take, drop, get_or, refl, sym, ap, ◌∙◌, subst, arith}
+use Rattle.std.proofs.Common.{◌≡◌, ℕ, zero, suc, ◌+◌, ◌-◌, ◌<◌, ◌&&◌, Bool, true, false, nat_lt, if◌then◌else◌, Option, Some, None, IfSome, List, [], reverse, length, take, drop, get_or, refl, sym, ap, ◌∙◌, subst, arith}
 use Rattle.std.proofs.lemmas.Bool.Decides.{nat_tests}
 use Rattle.std.proofs.lemmas.List.{drop_more, get_or_default, take-append-drop}
 use Rattle.std.proofs.lemmas.List.Concat.{flat_map-append}
-use Rattle.std.proofs.lemmas.List.Elements.{All-contains}
 use Rattle.std.proofs.lemmas.List.Folds.{find-append}
 use Rattle.std.specs.Option.{is_some, option_or}
-use Rattle.std.specs.Cmp.{IsTotalOrder, alike_right}
-use Rattle.std.specs.List.{All, AllPairs, concat, find, flat_map, slice_get}
-use Rattle.std.specs.Ordering.{is_ge, is_gt, is_le, is_lt, ordering_reverse}
-use Rattle.std.specs.declared.cmp.Ordering.{Ordering}
-use Rattle.std.specs.declared.cmp.Ordering.TheVariants.{Less, Equal, Greater}
+use Rattle.std.specs.List.{All, AllPairs, find, flat_map, slice_get}
+use Rattle.std.specs.Ordering.{is_lt}
+use Rattle.std.specs.declared.cmp.Ordering.TheVariants.{Less}
 use Rattle.xr_block.specs.declared.bound.Bound.{Bound}
-use Rattle.xr_block.specs.declared.bound.Bound.TheVariants.{Start, Before, After}
 use Rattle.xr_lookup.specs.declared.lookup.Wanted.{Wanted}
-use Rattle.xr_block.specs.Bounds.{IsParted, IsPlaceOf, entry_is_before, is_before, key_is_before}
+use Rattle.xr_block.specs.Bounds.{IsPlaceOf, entry_is_before, is_before}
 use Rattle.xr_kinds.specs.Form.{Form, IsForm}
-use Rattle.xr_block.specs.Leaf.{IsLeaf}
 use Rattle.xr_lookup.specs.Lookup.{is_wanted, meets_given}
-use Rattle.xr_block.specs.NodeEntries.{child_in, high_key_in, key_in, low_key_from, low_key_in}
-use Rattle.xr_block.specs.NodeEntryLaws.{count_of_block, entry_read, length-entries}
-use Rattle.xr_pool.specs.Overlay.{Blocks, block_at, pool_size}
+use Rattle.xr_block.specs.NodeEntries.{high_key_in, key_in, low_key_from, low_key_in}
+use Rattle.xr_block.specs.NodeEntryLaws.{entry_read, length-entries}
+use Rattle.xr_pool.specs.Overlay.{Blocks, block_at}
 use Rattle.xr_lookup.specs.Reach.{IsBeforeKey, IsUnderKeys}
-use Rattle.xr_block.specs.Rows.{key_held, AreRowsOf, IsWholeLeaf, IsWholeNode, min_records, named_below, rows_from}
+use Rattle.xr_block.specs.Rows.{key_held, AreRowsOf, min_records, named_below}
 use Rattle.xr_block.specs.Tree.{site_of, tree_held, tree_records}
 use Rattle.xr_block.specs.TreeBlock.{Entry, count_in, entries_in, records_in}
 use Rattle.xr_block.specs.Under.{IsUnder}
-use Rattle.xr_block.specs.UnderLaws.{HasFirst, child_in_row, min_records_some, has_first, leaf_records, linked_at, named_at, node_records}
+use Rattle.xr_block.specs.UnderLaws.{HasFirst, child_in_row, leaf_records}
 use Rattle.xr_lookup.proofs.FoundLemmas.{first_least}
 use Rattle.xr_lookup.proofs.HighLemmas.{IsUpTo, high_all}
-use Rattle.xr_block.specs.PartLaws.{Begins, all_of_part, all_left, all_right, find_after, front_of_place, front_passes, last_at, last_of_none, last_of_part, last_of_parted, none_found, pairs_next, pairs_of_part, parted, some_found}
+use Rattle.xr_block.specs.PartLaws.{Begins, find_after, front_of_place, front_passes, last_at, last_of_none, last_of_part, last_of_parted, none_found, pairs_next, some_found}
 use Rattle.xr_block.specs.DescentLaws.{falls}
 use Rattle.xr_block.specs.DescentLaws as descent
 

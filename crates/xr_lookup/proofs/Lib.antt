@@ -1,3 +1,4 @@
+pub mod CountLemmas
 pub mod DescentLemmas
 pub mod FoundLemmas
 pub mod HighLemmas

@@ -1,17 +1,19 @@
-//! Lookups in a tree, each on one way from the root down to the leaves.
+//! Lookups in a tree, each on one path from the root down to the leaves.
 ghost use Rattle.std.specs.Prelude.{◌≡◌, ◌+◌, ◌<◌, None, false, IsTrue, length, slice_index_or, reverse};
 ghost use Rattle.std.specs.List.{find, slice_get};
 ghost use Rattle.xr_block.specs.Bounds.{IsPlaceOf, entry_is_before, is_before};
 ghost use Rattle.xr_lookup.specs.Lookup.{FindsGreatest, FindsLeast, bound_after, from, is_wanted, overlaps, up_to};
 ghost use Rattle.xr_pool.specs.Overlay.{block_at};
-ghost use Rattle.xr_block.specs.Tree.{IsTreeIn, tree_records};
+ghost use Rattle.xr_block.specs.Tree.{tree_records};
 ghost use Rattle.xr_block.specs.TreeBlock.{Entry, entries_in, records_in};
 ghost use Rattle.xr_block.specs.Under.{IsUnder};
+ghost use Rattle.xr_block.specs.Trees.{IsTree, records_of_tree};
 
 use crate::reach::Reach;
 use crate::steps::{
     child_count, child_of, children_before, reach_of, record_count, record_of, records_before,
 };
+use xr_block::Root;
 use xr_block::bound::Bound;
 use xr_kinds::Record;
 use xr_pool::Overlay;
@@ -84,7 +86,8 @@ fn first_in_leaf<R: Record>(over: &Overlay, n: u32, wanted: &Wanted<R>) -> Optio
 fn may_hold<R: Reach>(over: &Overlay, n: u32, level: u32, k: usize, wanted: &Wanted<R>) -> bool
     requires node { IsUnder R.form over.now (level + 1) n }
     requires within { k < length (entries_in R.form (block_at over.now n)) }
-    ensures { result ≡ false → (d : Entry) → (let e = slice_index_or (entries_in R.form (block_at over.now n)) k d in None ≡ find (is_wanted R.form wanted.now) (tree_records R.form over.now e.child level)) }
+    ensures { result ≡ false → (d : Entry) → (let e = slice_index_or (entries_in R.form (block_at over.now n)) k d in
+        None ≡ find (is_wanted R.form wanted.now) (tree_records R.form over.now e.child level)) }
 {
     match &wanted.meeting {
         None => true,
@@ -115,41 +118,35 @@ fn first_from<R: Reach>(over: &Overlay, n: u32, level: u32, wanted: &Wanted<R>) 
 }
 
 /// The greatest record of a tree that isn't above another.
-pub fn at_most<R: Reach>(over: &Overlay, root: u32, level: u32, r: &R) -> Option<R>
-    requires { IsTreeIn R.form over.now root level }
-    ensures { FindsGreatest R.form (tree_records R.form over.now root level) (up_to R.form r.now) result }
+pub fn at_most<R: Reach>(over: &Overlay, root: Root, r: &R) -> Option<R>
+    requires { IsTree R.form over.now root }
+    ensures { FindsGreatest R.form (records_of_tree R.form over.now root) (up_to R.form r.now) result }
 {
-    last_before(over, root, level, &Bound::After(*r))
+    last_before(over, root.block, root.level, &Bound::After(*r))
 }
 
 /// The least record of a tree that isn't below another.
-pub fn at_least<R: Reach>(over: &Overlay, root: u32, level: u32, r: &R) -> Option<R>
-    requires { IsTreeIn R.form over.now root level }
-    ensures { FindsLeast R.form (tree_records R.form over.now root level) (from R.form r.now) result }
+pub fn at_least<R: Reach>(over: &Overlay, root: Root, r: &R) -> Option<R>
+    requires { IsTree R.form over.now root }
+    ensures { FindsLeast R.form (records_of_tree R.form over.now root) (from R.form r.now) result }
 {
     let wanted = Wanted {
         from: Bound::Before(*r),
         meeting: None,
     };
-    first_from(over, root, level, &wanted)
+    first_from(over, root.block, root.level, &wanted)
 }
 
 /// The first record of a tree, in its order, that meets a valid one. Where a record is given to go on after, it is the
 /// first after that.
-pub fn overlap<R: Reach>(
-    over: &Overlay,
-    root: u32,
-    level: u32,
-    with: &R,
-    after: Option<R>,
-) -> Option<R>
-    requires tree { IsTreeIn R.form over.now root level }
+pub fn overlap<R: Reach>(over: &Overlay, root: Root, with: &R, after: Option<R>) -> Option<R>
+    requires tree { IsTree R.form over.now root }
     requires valid { IsTrue (R.form.is_valid with.now) }
-    ensures { FindsLeast R.form (tree_records R.form over.now root level) (overlaps R.form with.now after) result }
+    ensures { FindsLeast R.form (records_of_tree R.form over.now root) (overlaps R.form with.now after) result }
 {
     let overlapping = Wanted {
         from: bound_after(after),
         meeting: Some(*with),
     };
-    first_from(over, root, level, &overlapping)
+    first_from(over, root.block, root.level, &overlapping)
 }

@@ -91,7 +91,9 @@ fn low_key_from<R: Record>(block: &Block, k: usize) -> Option<&[u8]>
 fn reach_at<R: Reach>(block: &Block, k: usize) -> Span
     requires few { count_in block.now ≤ R.form.node_max }
     requires within { k < count_in block.now }
-    ensures { (x : R) → IsUnderKeys R.form (low_key_in R.form k block.now) (high_key_in R.form k block.now) (low_key_from R.form (k + 1) block.now) x → IsInside (R.span_of x) result }
+    ensures { (x : R)
+        → IsUnderKeys R.form (low_key_in R.form k block.now) (high_key_in R.form k block.now) (low_key_from R.form (k + 1) block.now) x
+        → IsInside (R.span_of x) result }
 {
     R::reach(
         low_key_at::<R>(block, k),
@@ -104,7 +106,8 @@ fn reach_at<R: Reach>(block: &Block, k: usize) -> Span
 pub(crate) fn reach_of<R: Reach>(over: &Overlay, n: u32, level: u32, k: usize) -> Span
     requires node { IsUnder R.form over.now (level + 1) n }
     requires within { k < length (entries_in R.form (block_at over.now n)) }
-    ensures { (d : Entry) → (let e = slice_index_or (entries_in R.form (block_at over.now n)) k d in All (λ x. IsInside (R.span_of x) result) (tree_records R.form over.now e.child level)) }
+    ensures { (d : Entry) → (let e = slice_index_or (entries_in R.form (block_at over.now n)) k d in
+        All (λ x. IsInside (R.span_of x) result) (tree_records R.form over.now e.child level)) }
 {
     reach_at::<R>(over.block(n), k)
 }

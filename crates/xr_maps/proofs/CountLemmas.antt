@@ -31,6 +31,8 @@ unfolding count_below
 count_below_le p zero = omega arith
 count_below_le p (suc n) = let h = count_below_le p n in let b = at_most_one (p n) in omega arith
 
+pub ruleset count_below_laws = (count_below_none, count_below_more, count_below_le)
+
 pub count_below_same : (p q : ℕ → Bool) (n : ℕ) → ((k : ℕ) → k < n → p k ≡ q k) → count_below p n ≡ count_below q n
 unfolding count_below
 count_below_same p q zero same = refl

@@ -7,7 +7,7 @@ use Rattle.xr_base.specs.Address.{address_of}
 use Rattle.xr_maps.specs.declared.records.Counted.{Counted}
 use Rattle.xr_maps.specs.Runs.{Span}
 use Rattle.xr_maps.specs.Records.{span_of_run}
-use Rattle.xr_maps.specs.Counts.{HasCount, HaveOneCount, IsEqualLen, AreRunsOfCounts}
+use Rattle.xr_maps.specs.Counts.{HasCount, HaveOneCount, IsEqualLen, AreRunsOfCounts, HasRunsOfCounts}
 use Rattle.xr_maps.proofs.RunLemmas.{AreRunsBelow, BeginsRun, none_below, runs_push, runs_skip, runs_all}
 
 abbrev pub spans_of : List Counted → List Span
@@ -96,4 +96,47 @@ module _ (first : ℕ) (counts : List ℕ) (P : ℕ → Type 0) where
     runs = runs_all (first + place) (spans_of records) so_far.runs (λ k there. let b = there.below in omega arith);
     counted = so_far.counted;
     unstaged = so_far.unstaged;
+  }
+
+-- What is had of each run below a place, and how that goes on.
+pub record HasRunsBelow {T : Type 0} (from_counted : Counted → T) (first : ℕ) (counts : List ℕ) (P : ℕ → Type 0) (place : ℕ) (records : List T) : Type 0 where
+  pub within : place ≤ length counts
+  pub runs : List Counted
+  pub are : AreCountedBelow first counts P place runs
+  pub each : records ≡ map from_counted runs
+
+module _ {T : Type 0} (from_counted : Counted → T) (first : ℕ) (counts : List ℕ) (P : ℕ → Type 0) where
+  pub no_runs : (records : List T) → records ≡ [] → HasRunsBelow from_counted first counts P 0 records
+  no_runs records none = record { within = omega arith; runs = []; are = none_counted first counts P; each = none }
+
+  pub one_run_more : (place len : ℕ) (records new : List T) (run : T) → HasRunsBelow from_counted first counts P place records → IsEqualLen counts place len
+      → P (slice_index counts place)
+      → run ≡ from_counted (record { run = record { start = address_of (first + place); len = len }; count = slice_index counts place; staged = false })
+      → new ≡ records ++ run ∷ []
+      → HasRunsBelow from_counted first counts P (place + len) new
+  one_run_more place len records new run so_far equal wanted is_run is_new =
+      let counted : Counted = record { run = record { start = address_of (first + place); len = len }; count = slice_index counts place; staged = false } in
+      record {
+        within = equal.within;
+        runs = so_far.runs ++ counted ∷ [];
+        are = counted_push first counts P place len so_far.runs so_far.are equal wanted;
+        each = (let e : records ++ run ∷ [] ≡ map from_counted so_far.runs ++ from_counted counted ∷ [] = let h = so_far.each in cc in is_new ∙ e)
+            ∙ sym (map_push from_counted so_far.runs counted);
+      }
+
+  pub no_run_more : (place len : ℕ) (records : List T) → HasRunsBelow from_counted first counts P place records → IsEqualLen counts place len
+      → ¬ P (slice_index counts place) → HasRunsBelow from_counted first counts P (place + len) records
+  no_run_more place len records so_far equal unwanted = record {
+    within = equal.within;
+    runs = so_far.runs;
+    are = counted_skip first counts P place len so_far.runs so_far.are equal unwanted;
+    each = so_far.each;
+  }
+
+  pub all_runs : (place : ℕ) (records : List T) → HasRunsBelow from_counted first counts P place records → length counts ≤ place
+      → HasRunsOfCounts from_counted first counts P records
+  all_runs place records so_far end = record {
+    runs = so_far.runs;
+    are = all_counted_runs first counts P place so_far.runs so_far.are end;
+    each = so_far.each;
   }

@@ -16,10 +16,10 @@ pub record AreExtentsBelow (slots : ℕ → Option Addr) (n : ℕ) (extents : Li
   pub runs : AreRunsBelow (λ off. IsSome (slots off)) (RunsOn slots) n (map span_of_extent extents)
   pub starts : All (λ e. slots e.off ≡ Some e.at) extents
 
--- a position of an extent is mapped as far on as it lies behind the extent's start
-pub slot_behind : (table : List (Option Addr)) (off : ℕ) (at : Addr) (len : ℕ) → IsExtentLen table off at len → (k : ℕ) → off ≤ k → k < off + len
+-- a position of an extent is mapped as far on as it lies after the extent's start
+pub slot_in_extent : (table : List (Option Addr)) (off : ℕ) (at : Addr) (len : ℕ) → IsExtentLen table off at len → (k : ℕ) → off ≤ k → k < off + len
     → slot_of table k ≡ Some (address_after at (k - off))
-slot_behind table off at len h k above below =
+slot_in_extent table off at len h k above below =
     let same : off + (k - off) ≡ k = omega arith in
     let found = h.together (k - off) (omega arith) in
     ap (slot_of table) (sym same) ∙ found
@@ -37,8 +37,8 @@ runs_on : (table : List (Option Addr)) (off : ℕ) (at : Addr) (len : ℕ) → I
     → RunsOn (slot_of table) k
 runs_on table off at len h k above below = record {
   here = address_after at (k - off);
-  is_here = slot_behind table off at len h k above (omega arith);
-  is_next = slot_behind table off at len h (k + 1) (omega arith) below
+  is_here = slot_in_extent table off at len h k above (omega arith);
+  is_next = slot_in_extent table off at len h (k + 1) (omega arith) below
       ∙ same_address at (k + 1 - off) (k - off + 1) (omega arith)
       ∙ ap Some (sym (next_address at (k - off)));
 }
@@ -46,7 +46,7 @@ runs_on table off at len h k above below = record {
 pub stops : (table : List (Option Addr)) (off : ℕ) (at : Addr) (len : ℕ) → IsExtentLen table off at len → (k : ℕ) → k + 1 ≡ off + len
     → ¬ RunsOn (slot_of table) k
 stops table off at len h k last on =
-    let here : slot_of table k ≡ Some (address_after at (k - off)) = slot_behind table off at len h k (let p = h.some in omega arith) (omega arith) in
+    let here : slot_of table k ≡ Some (address_after at (k - off)) = slot_in_extent table off at len h k (let p = h.some in omega arith) (omega arith) in
     let same : on.here ≡ address_after at (k - off) = let a = on.is_here in cc in
     let next : slot_of table (off + len) ≡ Some (address_after at len) =
     ap (slot_of table) (sym last) ∙ on.is_next ∙ ap (λ a. Some (address_after a 1)) same
@@ -60,7 +60,7 @@ pub extent_begins : (table : List (Option Addr)) (off : ℕ) (at : Addr) (len : 
     → BeginsRun (λ o. IsSome (slot_of table o)) (RunsOn (slot_of table)) off len
 extent_begins table off at len h = record {
   some = h.some;
-  there = λ k above below. ap is_some (slot_behind table off at len h k above below);
+  there = λ k above below. ap is_some (slot_in_extent table off at len h k above below);
   joined = runs_on table off at len h;
   ended = stops table off at len h;
 }
@@ -88,7 +88,7 @@ extents_push : (table : List (Option Addr)) (off : ℕ) (at : Addr) (len : ℕ) 
 extents_push table off at len extents so_far found = record {
   runs = rw map_push (runs_push off len (map span_of_extent extents) so_far.runs (extent_begins table off at len found));
   starts = All-push (λ e. slot_of table e.off ≡ Some e.at) extents _ so_far.starts
-      (slot_behind table off at len found off (omega arith) (let p = found.some in omega arith) ∙ first_address at (off - off) (omega arith));
+      (slot_in_extent table off at len found off (omega arith) (let p = found.some in omega arith) ∙ first_address at (off - off) (omega arith));
 }
 
 -- the next extent is found
@@ -96,7 +96,7 @@ pub extents_more : (table : List (Option Addr)) (from : ℕ) (e : Extent) (exten
     → AreExtentsBelow (slot_of table) from extents → IsNextExtent table from e
     → AreExtentsBelow (slot_of table) (e.off + e.len) (extents ++ e ∷ [])
 extents_more table from e extents so_far next =
-    extents_push table e.off e.at e.len extents (extents_skip table from e.off extents next.behind so_far next.holes) next.extent
+    extents_push table e.off e.at e.len extents (extents_skip table from e.off extents next.after so_far next.holes) next.extent
 
 pub no_extents : (slots : ℕ → Option Addr) → AreExtentsBelow slots 0 []
 no_extents slots = record {

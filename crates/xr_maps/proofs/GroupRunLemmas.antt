@@ -1,13 +1,14 @@
 -- The runs of counts of a group are those of its blocks' numbers of owners.
 use Rattle.std.proofs.Common.{◌≡◌, ℕ, ◌+◌, ◌-◌, ◌<◌, ◌≤◌, List, length, map, get_or, sym, ap, subst, ◌∙◌, arith}
 use Rattle.std.specs.Prelude.{slice_index}
-use Rattle.std.proofs.lemmas.List.{get_or-map, length-map}
+use Rattle.std.proofs.lemmas.List.{get_or-map, length-map, map-id}
 use Rattle.xr_base.specs.Address.{address_of}
 use Rattle.xr_base.specs.declared.geometry.TheConstants.{GROUPS, DATA_BLOCKS}
+use Rattle.xr_base.specs.declared.address.Run.{Run}
 use Rattle.xr_maps.specs.declared.records.Counted.{Counted}
 use Rattle.xr_maps.specs.FileMaps.{FileMaps}
-use Rattle.xr_maps.specs.Records.{owner_count, span_of_run, IsCounted, AreCountedAlike, AreCountedRuns, AreReferenceRecords}
-use Rattle.xr_maps.specs.Counts.{AreOwnerCounts, HasCount, HaveOneCount, AreRunsOfCounts, first_data_of}
+use Rattle.xr_maps.specs.Records.{owner_count, span_of_run, IsCounted, AreCountedAlike, AreCountedRuns, AreReferenceRecords, AreFreeRecords}
+use Rattle.xr_maps.specs.Counts.{AreOwnerCounts, HasCount, HaveOneCount, AreRunsOfCounts, HasRunsOfCounts, first_data_of}
 use Rattle.xr_maps.specs.Runs.{IsLongestRun}
 use Rattle.xr_maps.proofs.RunLemmas.{runs_same}
 
@@ -61,7 +62,7 @@ module _ (maps : FileMaps) (group : ℕ) (counts : List ℕ) (P : ℕ → Type 0
         alike = count_at known k here.above (let b = here.below in omega arith) ∙ h.alike ∙ sym (count_at known (k + 1) next.above (let b = next.below in omega arith));
       }
 
-  pub counted_runs_of : (records : List Counted) → group < GROUPS → AreOwnerCounts maps group counts
+  counted_runs_of : (records : List Counted) → group < GROUPS → AreOwnerCounts maps group counts
       → AreRunsOfCounts (first_data_of group) counts P records → AreCountedRuns maps group P (map (λ r. r.run) records)
   counted_runs_of records there known found =
       runs_same _ (counted_from there known) (has_from known) (alike_from there known) (one_count_from known) found.runs
@@ -81,7 +82,7 @@ module _ (maps : FileMaps) (group : ℕ) (counts : List ℕ) (P : ℕ → Type 0
       let some = run.some in
       run.there (get_or records i d).run.start.0 (record { begun = omega arith; not_ended = omega arith })
 
-pub reference_records_of : (maps : FileMaps) (group : ℕ) (counts : List ℕ) (records : List Counted) → group < GROUPS → AreOwnerCounts maps group counts
+reference_records_of : (maps : FileMaps) (group : ℕ) (counts : List ℕ) (records : List Counted) → group < GROUPS → AreOwnerCounts maps group counts
     → AreRunsOfCounts (first_data_of group) counts (λ n. 2 ≤ n) records → AreReferenceRecords maps group records
 reference_records_of maps group counts records there known found = record {
   runs = counted_runs_of maps group counts (λ n. 2 ≤ n) records there known found;
@@ -93,7 +94,20 @@ reference_records_of maps group counts records there known found = record {
 }
 
 -- the same runs, where the first address and the counts are named otherwise
-pub runs_of_same : (P : ℕ → Type 0) (first first' : ℕ) (counts counts' : List ℕ) (records : List Counted) → first ≡ first' → counts ≡ counts'
+runs_of_same : (P : ℕ → Type 0) (first first' : ℕ) (counts counts' : List ℕ) (records : List Counted) → first ≡ first' → counts ≡ counts'
     → AreRunsOfCounts first counts P records → AreRunsOfCounts first' counts' P records
 runs_of_same P first first' counts counts' records e f found =
     subst (λ n. AreRunsOfCounts n counts' P records) e (subst (λ xs. AreRunsOfCounts first xs P records) f found)
+
+-- with their counts they are the reference records, and without them the free records
+pub shared_found : (maps : FileMaps) (group first : ℕ) (counts counts' : List ℕ) (records : List Counted) → group < GROUPS → AreOwnerCounts maps group counts'
+    → first ≡ first_data_of group → counts ≡ counts' → HasRunsOfCounts (λ r. r) first counts (λ n. 2 ≤ n) records → AreReferenceRecords maps group records
+shared_found maps group first counts counts' records there known e f found =
+    reference_records_of maps group counts' records there known (runs_of_same (λ n. 2 ≤ n) first (first_data_of group) counts counts' records e f
+    (subst (AreRunsOfCounts first counts (λ n. 2 ≤ n)) (sym (found.each ∙ map-id found.runs)) found.are))
+
+pub free_found : (maps : FileMaps) (group first : ℕ) (counts counts' : List ℕ) (runs : List Run) → group < GROUPS → AreOwnerCounts maps group counts'
+    → first ≡ first_data_of group → counts ≡ counts' → HasRunsOfCounts (λ r. r.run) first counts (λ n. n ≡ 0) runs → AreFreeRecords maps group runs
+free_found maps group first counts counts' runs there known e f found =
+    subst (AreFreeRecords maps group) (sym found.each)
+    (counted_runs_of maps group counts' (λ n. n ≡ 0) found.runs there known (runs_of_same (λ n. n ≡ 0) first (first_data_of group) counts counts' found.runs e f found.are))

@@ -17,7 +17,7 @@ use Rattle.xr_maps.specs.Tables.{slot_of, IsTable, AreTables, maps_of_tables}
 use Rattle.xr_maps.specs.Extents.{IsExtentLen, IsNextExtent, AreHoles}
 use Rattle.xr_maps.specs.Owners.{AreOwnersBelow, place_of, owner_place, record_of}
 use Rattle.xr_maps.proofs.MapLemmas.{address_in_table, IsTable-read, AreGoodMaps-of_tables, no_such_file}
-use Rattle.xr_maps.proofs.ExtentLemmas.{slot_behind, stops, first_address, is_mapped, not_mapped}
+use Rattle.xr_maps.proofs.ExtentLemmas.{slot_in_extent, stops, first_address, is_mapped, not_mapped}
 
 -- the blocks of an extent are data blocks
 pub data_at : (table : List (Option Addr)) (e : Extent) → IsTable table → IsExtentLen table e.off e.at e.len → (i : ℕ) → i < e.len → IsData (address_after e.at i)
@@ -46,7 +46,7 @@ module _ (tables : List (Vec (Option Addr))) (file : ℕ) (table : Vec (Option A
   -- the extent that is found next, where no extent goes on across its start
   module _ (e : Extent) (found : IsExtentLen table.items e.off e.at e.len) where
     begins : slot_of table.items e.off ≡ Some e.at
-    begins = slot_behind table.items e.off e.at e.len found e.off (omega arith) (let p = found.some in omega arith) ∙ first_address e.at (e.off - e.off) (omega arith)
+    begins = slot_in_extent table.items e.off e.at e.len found e.off (omega arith) (let p = found.some in omega arith) ∙ first_address e.at (e.off - e.off) (omega arith)
 
     not_before : ((k : ℕ) → k + 1 ≡ e.off → ¬ RunsOn (slot_of table.items) k) → (a : Addr) (off : ℕ) → a.0 + 1 ≡ e.at.0 → off + 1 ≡ e.off
         → ¬ IsOwner (maps_of_tables tables) a file off
@@ -83,7 +83,7 @@ module _ (tables : List (Vec (Option Addr))) (file : ℕ) (table : Vec (Option A
     covers : (a : Addr) (off : ℕ) → e.off ≤ off → off < e.off + e.len → IsOwner (maps_of_tables tables) a file off
         → CoversOwner a file off (record_of e file)
     covers a off above below own =
-        let block : slot_of table.items off ≡ Some (address_after e.at (off - e.off)) = slot_behind table.items e.off e.at e.len found off above below in
+        let block : slot_of table.items off ≡ Some (address_after e.at (off - e.off)) = slot_in_extent table.items e.off e.at e.len found off above below in
         let here = owned_slot a off own in
         record {
           place = off - e.off;
@@ -111,9 +111,9 @@ module _ (tables : List (Vec (Option Addr))) (file : ℕ) (table : Vec (Option A
       → (a : Addr) (f off : ℕ) → place_of f off < place_of file to → group_number a ≡ group → IsOwner (maps_of_tables tables) a f off → Any (CoversOwner a f off) more
   every_more to more le within kept added a f off below in_group own = ⊎_elim
       (λ (before : place_of f off < place_of file from). kept a f off (so_far.every a f off before in_group own))
-      (λ (behind : place_of file from ≤ place_of f off).
+      (λ (after : place_of file from ≤ place_of f off).
       let small : off < OFFSETS = (AreGoodMaps-of_tables tables are).offsets f off (ap is_some own) in
-      let at = this_place file f off from to small within behind below in
+      let at = this_place file f off from to small within after below in
       let mine = this_file tables file table are there read f at.0 a off own in
       subst (λ n. Any (CoversOwner a n off) more) (sym at.0) (added a off at.1 at.2 in_group mine))
       (cases_lt (place_of f off) (place_of file from))
@@ -127,7 +127,7 @@ module _ (tables : List (Vec (Option Addr))) (file : ℕ) (table : Vec (Option A
 
     unjoined : ((k : ℕ) → k + 1 ≡ from → ¬ RunsOn (slot_of table.items) k) → (k : ℕ) → k + 1 ≡ e.off → ¬ RunsOn (slot_of table.items) k
     unjoined broken k last on = ⊎_elim
-        (λ (below : k < from). broken k (let b = next.behind in omega arith) on)
+        (λ (below : k < from). broken k (let b = next.after in omega arith) on)
         (λ (above : from ≤ k). not_mapped (slot_of table.items) k (next.holes k above (omega arith)) (is_mapped (slot_of table.items) k on))
         (cases_lt k from)
 
@@ -137,12 +137,12 @@ module _ (tables : List (Vec (Option Addr))) (file : ℕ) (table : Vec (Option A
       each = so_far.each;
       offsets = so_far.offsets;
       rising = so_far.rising;
-      within = λ k d h. let b = so_far.within k d h in let n = next.behind in omega arith;
-      every = every_more (e.off + e.len) records (let n = next.behind in omega arith) end_within (λ a f off found. found)
+      within = λ k d h. let b = so_far.within k d h in let n = next.after in omega arith;
+      every = every_more (e.off + e.len) records (let n = next.after in omega arith) end_within (λ a f off found. found)
           (λ a off above below in_group own. absurd (⊎_elim
           (λ (before : off < e.off). no_owner_at off (next.holes off above before) a own)
-          (λ (behind : e.off ≤ off).
-          let c = covers tables file table are there read e next.extent a off behind below own in
+          (λ (after : e.off ≤ off).
+          let c = covers tables file table are there read e next.extent a off after below own in
           let is = IsTable-read tables file table are there read in
           let same = same_group e.at e.len c.place (data_at table.items e is next.extent) c.within in
           other (sym same ∙ ap group_number (sym c.is_block) ∙ in_group))
@@ -154,7 +154,7 @@ module _ (tables : List (Vec (Option Addr))) (file : ℕ) (table : Vec (Option A
         → AreOwnersBelow (maps_of_tables tables) group (place_of file (e.off + e.len)) (records ++ record_of e file ∷ [])
     owners_more broken mine =
         let some = next.extent.some in
-        let n = next.behind in
+        let n = next.after in
         record {
           each = All-push (IsReverseRecord (maps_of_tables tables) group) records _ so_far.each
               (is_reverse_record tables file table are there read e next.extent group (unjoined broken) mine);
@@ -164,7 +164,7 @@ module _ (tables : List (Vec (Option Addr))) (file : ℕ) (table : Vec (Option A
           every = every_more (e.off + e.len) _ (omega arith) end_within (λ a f off found. any_before (CoversOwner a f off) records _ found)
               (λ a off above below in_group own. ⊎_elim
               (λ (before : off < e.off). absurd (no_owner_at off (next.holes off above before) a own))
-              (λ (behind : e.off ≤ off). Any-push (CoversOwner a file off) records _ (covers tables file table are there read e next.extent a off behind below own))
+              (λ (after : e.off ≤ off). Any-push (CoversOwner a file off) records _ (covers tables file table are there read e next.extent a off after below own))
               (cases_lt off e.off));
         }
 

@@ -1,4 +1,4 @@
--- Numbers of owners, block by block, and the runs that a search finds in them.
+-- Of no public contract: numbers of owners, block by block, and the runs that a search finds in them.
 use Rattle.std.specs.Prelude.{◌≡◌, ◌≢◌, ℕ, ◌+◌, ◌-◌, ◌*◌, ◌<◌, ◌≤◌, List, length, map, slice_index, sum_by, All, false, Option}
 use Rattle.std.specs.Global.{Vec}
 use Rattle.xr_base.specs.declared.address.Addr.{Addr}
@@ -54,3 +54,9 @@ pub record AreRunsOfCounts (first : ℕ) (counts : List ℕ) (P : ℕ → Type 0
   pub runs : AreLongestRuns (HasCount first counts P) (HaveOneCount first counts P) (map span_of_run (map (λ r. r.run) records))
   pub counted : All (λ r. r.count ≡ slice_index counts (r.run.start.0 - first)) records
   pub unstaged : All (λ r. r.staged ≡ false) records
+
+-- what is had of each of these runs, in their order
+pub record HasRunsOfCounts {T : Type 0} (from_counted : Counted → T) (first : ℕ) (counts : List ℕ) (P : ℕ → Type 0) (records : List T) : Type 0 where
+  pub runs : List Counted
+  pub are : AreRunsOfCounts first counts P runs
+  pub each : records ≡ map from_counted runs

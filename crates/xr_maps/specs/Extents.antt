@@ -1,4 +1,4 @@
--- What the search for extents finds on its way.
+-- Of no public contract: what the search for extents finds on its way.
 use Rattle.std.specs.Prelude.{◌≡◌, ◌≢◌, ℕ, ◌+◌, ◌<◌, ◌≤◌, List, length, Option, None, Some}
 use Rattle.xr_base.specs.declared.address.Addr.{Addr}
 use Rattle.xr_base.specs.Address.{address_after}
@@ -18,6 +18,6 @@ AreHoles table from to = (off : ℕ) → from ≤ off → off < to → slot_of t
 
 -- the extent goes on as long as it can, and holes alone stand between the offset and it
 pub record IsNextExtent (table : List (Option Addr)) (from : ℕ) (e : Extent) : Type 0 where
-  pub behind : from ≤ e.off
+  pub after : from ≤ e.off
   pub holes : AreHoles table from e.off
   pub extent : IsExtentLen table e.off e.at e.len

@@ -1,4 +1,4 @@
--- What the search for owners has found on its way, file by file and offset by offset.
+-- Of no public contract: what the search for owners has found on its way, file by file and offset by offset.
 use Rattle.std.specs.Prelude.{◌≡◌, ℕ, ◌+◌, ◌*◌, ◌<◌, List, All, AllPairs, Any}
 use Rattle.xr_base.specs.declared.address.Addr.{Addr}
 use Rattle.xr_base.specs.declared.geometry.TheConstants.{OFFSETS, FIRST_INODE}

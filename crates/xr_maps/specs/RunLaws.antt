@@ -67,8 +67,8 @@ module _ {X : Type 0} (R : X → X → Type 0) (irreflexive : (x : X) → ¬ R x
   AllPairs-tail : (x : X) (xs : List X) → AllPairs R (x ∷ xs) → AllPairs R xs
   AllPairs-tail x xs up i j d below h = up (suc i) (suc j) d (omega arith) (omega arith)
 
-  behind_head : (x z : X) (xs : List X) → AllPairs R (x ∷ xs) → Contains xs z → R x z
-  behind_head x z xs up found = subst (R x) found.2 (up 0 (suc found.0) z (omega arith) (let h = found.1 in omega arith))
+  after_head : (x z : X) (xs : List X) → AllPairs R (x ∷ xs) → Contains xs z → R x z
+  after_head x z xs up found = subst (R x) found.2 (up 0 (suc found.0) z (omega arith) (let h = found.1 in omega arith))
 
   pub same_sorted : (xs ys : List X) → AllPairs R xs → AllPairs R ys → ((x : X) → Contains xs x → Contains ys x) → ((x : X) → Contains ys x → Contains xs x) → xs ≡ ys
   same_sorted [] [] up down to from = refl
@@ -77,8 +77,8 @@ module _ {X : Type 0} (R : X → X → Type 0) (irreflexive : (x : X) → ¬ R x
   same_sorted (x ∷ xs) (y ∷ ys) up down to from =
       let heads : x ≡ y = heads_same x y xs ys up down (to x (0, omega arith, refl)) (from y (0, omega arith, refl)) in
       let tails : xs ≡ ys = same_sorted xs ys (AllPairs-tail x xs up) (AllPairs-tail y ys down)
-      (λ z found. let behind = behind_head x z xs up found in
-      other_place z y ys (to z (suc found.0, (let h = found.1 in omega arith), found.2)) (λ e. irreflexive z (subst (λ w. R w z) (heads ∙ sym e) behind)))
-      (λ z found. let behind = behind_head y z ys down found in
-      other_place z x xs (from z (suc found.0, (let h = found.1 in omega arith), found.2)) (λ e. irreflexive z (subst (λ w. R w z) (sym heads ∙ sym e) behind))) in
+      (λ z found. let after = after_head x z xs up found in
+      other_place z y ys (to z (suc found.0, (let h = found.1 in omega arith), found.2)) (λ e. irreflexive z (subst (λ w. R w z) (heads ∙ sym e) after)))
+      (λ z found. let after = after_head y z ys down found in
+      other_place z x xs (from z (suc found.0, (let h = found.1 in omega arith), found.2)) (λ e. irreflexive z (subst (λ w. R w z) (sym heads ∙ sym e) after))) in
       λ i. heads i ∷ tails i

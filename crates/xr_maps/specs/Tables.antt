@@ -1,4 +1,4 @@
--- How the maps are kept: a table for each file, with a slot for each offset.
+-- Of no public contract: how the maps are kept, as a table for each file with a slot for each offset.
 use Rattle.std.specs.Prelude.{◌≡◌, ℕ, List, length, map, All, Option, None, IfSome, slice_index_or}
 use Rattle.std.specs.Global.{Vec}
 use Rattle.xr_base.specs.Address.{IsData}

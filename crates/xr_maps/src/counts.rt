@@ -1,10 +1,10 @@
 //! How many owners the data blocks of a group have, and the runs of blocks with one number of them.
-ghost use Rattle.std.specs.Prelude.{◌≡◌, ◌+◌, ◌*◌, ◌<◌, ◌≤◌, ◌^◌, ◌↔◌, ◌==◌, if◌then◌else◌, ℕ, IsTrue, IfOk, length, map, slice_index};
+ghost use Rattle.std.specs.Prelude.{◌≡◌, ◌+◌, ◌*◌, ◌<◌, ◌≤◌, ◌^◌, ◌↔◌, ◌==◌, if◌then◌else◌, ℕ, IsTrue, IfOk, length, slice_index};
 ghost use Rattle.xr_base.specs.Address.{address_of};
 ghost use Rattle.xr_base.specs.declared.geometry.TheConstants.{GROUPS};
 ghost use Rattle.xr_maps.specs.Records.{count_below, maps_to, AreReferenceRecords, AreFreeRecords};
 ghost use Rattle.xr_maps.specs.Tables.{AreTables, maps_of_tables, slot_of};
-ghost use Rattle.xr_maps.specs.Counts.{IsWanted, AreOwnerCounts, owners_in_tables, first_data_of, IsEqualLen, AreRunsOfCounts};
+ghost use Rattle.xr_maps.specs.Counts.{IsWanted, AreOwnerCounts, owners_in_tables, first_data_of, IsEqualLen, HasRunsOfCounts};
 
 use crate::records::Counted;
 use std::alloc::Global;
@@ -52,7 +52,7 @@ fn count_owner(counts: &mut [u32], first: u32, at: Addr)
 }
 
 /// Counts the owners in one file of the blocks from `first` on.
-#[tactic(auto, using(crate::proofs::CountLemmas::count_below_none, crate::proofs::CountLemmas::count_below_more, crate::proofs::CountLemmas::count_below_le))]
+#[tactic(auto, using(crate::proofs::CountLemmas::count_below_laws))]
 fn count_owners(counts: &mut [u32], first: u32, table: &[Option<Addr>])
     requires room { (i : ℕ) → i < length counts.old → slice_index counts.old i + length table.now < 2 ^ 32 }
     ensures { (i : ℕ) → i < length counts.old → slice_index counts.new i
@@ -104,15 +104,41 @@ fn equal_len(counts: &[u32], from: usize) -> usize
     len
 }
 
+/// What a list of the runs of one count has of each: the run alone, or its count too.
+trait FromCounted: Copy {
+    ghost use Rattle.xr_maps.specs.declared.records.Counted.{Counted};
+
+    ghost from_counted: { Counted → Self };
+
+    fn from_counted(counted: Counted) -> Self
+        ensures { result ≡ from_counted counted };
+}
+
+impl FromCounted for Run {
+    ghost from_counted = { λ counted. counted.run };
+
+    fn from_counted(counted: Counted) -> Run {
+        counted.run
+    }
+}
+
+impl FromCounted for Counted {
+    ghost from_counted = { λ counted. counted };
+
+    fn from_counted(counted: Counted) -> Counted {
+        counted
+    }
+}
+
 /// The longest runs of blocks with one count that is wanted, where the counts are those of the blocks from `first` on.
-fn counted_runs(
+fn runs_of_counts<T: FromCounted>(
     alloc: Global,
     first: u32,
     counts: &[u32],
     wanted: Wanted,
-) -> Result<Vec<Counted>, NoMemory>
+) -> Result<Vec<T>, NoMemory>
     requires { first + length counts.now < 2 ^ 32 }
-    ensures { IfOk result (λ records. AreRunsOfCounts first counts.now (IsWanted wanted) records.items) }
+    ensures { IfOk result (λ records. HasRunsOfCounts T.from_counted first counts.now (IsWanted wanted) records.items) }
 {
     let mut records = Vec::new(alloc);
     let mut place = 0;
@@ -123,11 +149,11 @@ fn counted_runs(
                 start: Addr(first + place as u32),
                 len: len as u32,
             };
-            records.push(Counted {
+            records.push(T::from_counted(Counted {
                 run,
                 count: counts[place],
                 staged: false,
-            })?;
+            }))?;
         }
         place += len;
     }
@@ -145,13 +171,7 @@ pub fn shared_in(
     ensures { IfOk result (λ records. AreReferenceRecords (maps_of_tables tables.now) group.0 records.items) }
 {
     let counts = owner_counts(alloc, tables, group)?;
-    counted_runs(alloc, first_data(group), &counts, Wanted::Shared)
-}
-
-fn runs_of(alloc: Global, records: &[Counted]) -> Result<Vec<Run>, NoMemory>
-    ensures { IfOk result (λ runs. runs.items ≡ map (λ r. r.run) records.now) }
-{
-    records.iter().map(|record| record.run).collect(alloc)
+    runs_of_counts(alloc, first_data(group), &counts, Wanted::Shared)
 }
 
 /// The free records of a group, by start.
@@ -165,6 +185,5 @@ pub fn free_in(
     ensures { IfOk result (λ runs. AreFreeRecords (maps_of_tables tables.now) group.0 runs.items) }
 {
     let counts = owner_counts(alloc, tables, group)?;
-    let records = counted_runs(alloc, first_data(group), &counts, Wanted::Free)?;
-    runs_of(alloc, &records)
+    runs_of_counts(alloc, first_data(group), &counts, Wanted::Free)
 }

@@ -84,6 +84,14 @@ impl Maps {
         })
     }
 
+    /// Each file maps data blocks alone, at offsets that there are. That is so of any maps: the call does nothing.
+    pub fn map_only_data_blocks(&self)
+        ensures { AreGoodMaps self.now }
+    {
+        // The clause is a law of the tables, which a proof has where they are named.
+        let _ = &self.tables;
+    }
+
     /// Applies a step.
     pub fn apply(&mut self, step: &Step)
         requires { Fits step.now }

@@ -53,7 +53,7 @@ fn extent_len(table: &[Option<Addr>], off: usize, at: Addr) -> usize
     len
 }
 
-/// The first extent at or behind `from`, where no extent goes on across `from`.
+/// The first extent at or after `from`, where no extent goes on across `from`.
 pub fn next_extent(table: &[Option<Addr>], from: usize) -> Option<Extent>
     requires { IsTable table.now }
     ensures { MatchOption result (AreHoles table.now from (length table.now)) (IsNextExtent table.now from) }

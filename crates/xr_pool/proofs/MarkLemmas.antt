@@ -25,7 +25,7 @@ pub unmarked_here : (marks : List Bool) (i : ℕ) (d : Bool) → i < length mark
 unmarked_here marks i d within is =
     rw (add-one i) (ap (marked i) (drop-cons marks i d within) ∙ unmarked_from i (get_or marks i d) (drop (suc i) marks) is)
 
--- no place is behind the last
+-- no place comes after the last
 pub marked_past : (i : ℕ) (marks : List Bool) → length marks ≤ i → marked i (drop i marks) ≡ []
 unfolding marked
 marked_past i marks past = ap (marked i) (drop_of_length-le marks past)
@@ -35,21 +35,21 @@ pub mark_counted : (marks : List Bool) (i : ℕ) (d : Bool) (count all : ℕ) �
     → count + length (marked i (drop i marks)) ≡ all → count + 1 + length (marked (i + 1) (drop (i + 1) marks)) ≡ all
 mark_counted marks i d count all within is so_far = omega (arith, ap length (marked_here marks i d within is))
 
--- the mark that is looked for stands behind this one
-pub record IsBehind (marks : List Bool) (i left place : ℕ) : Type 0 where
+-- the mark that is looked for stands after this one
+pub record IsAfter (marks : List Bool) (i left place : ℕ) : Type 0 where
   pub some : left < length (marked i (drop i marks))
   pub rest : slice_index (marked i (drop i marks)) left ≡ place
 
 pub mark_found : (marks : List Bool) (i : ℕ) (d : Bool) (left place : ℕ) → i < length marks → get_or marks i d ≡ true → left ≡ 0
-    → IsBehind marks i left place → i ≡ place
+    → IsAfter marks i left place → i ≡ place
 mark_found marks i d left place within is last here =
     ap (λ (places : List ℕ). slice_index places 0) (sym (marked_here marks i d within is))
     ∙ ap (λ (n : ℕ). slice_index (marked i (drop i marks)) n) (sym last) ∙ here.rest
 
 pub mark_passed : (marks : List Bool) (i : ℕ) (d : Bool) (left place : ℕ) → i < length marks → get_or marks i d ≡ true → 0 < left
-    → IsBehind marks i left place → IsBehind marks (i + 1) (left - 1) place
-mark_passed marks i d zero place within is behind here = absurd (omega arith)
-mark_passed marks i d (suc left) place within is behind here =
+    → IsAfter marks i left place → IsAfter marks (i + 1) (left - 1) place
+mark_passed marks i d zero place within is later here = absurd (omega arith)
+mark_passed marks i d (suc left) place within is later here =
     let split = marked_here marks i d within is in
     let rest : slice_index (marked (i + 1) (drop (i + 1) marks)) left ≡ place =
     ap (λ (places : List ℕ). slice_index places (suc left)) (sym split) ∙ here.rest in
@@ -57,7 +57,7 @@ mark_passed marks i d (suc left) place within is behind here =
     record { some = omega (arith, ap length split, here.some); rest = rw one rest }
 
 pub none_passed : (marks : List Bool) (i : ℕ) (d : Bool) (left place : ℕ) → i < length marks → get_or marks i d ≡ false
-    → IsBehind marks i left place → IsBehind marks (i + 1) left place
+    → IsAfter marks i left place → IsAfter marks (i + 1) left place
 none_passed marks i d left place within is here =
     let same = unmarked_here marks i d within is in
     record { some = omega (arith, ap length same, here.some); rest = ap (λ (places : List ℕ). slice_index places left) (sym same) ∙ here.rest }

@@ -4,3 +4,5 @@ pub mod Lending
 pub mod Marks
 pub mod Overlay
 pub mod OverlayLaws
+pub mod Room
+pub mod RoomLaws

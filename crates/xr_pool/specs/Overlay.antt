@@ -1,7 +1,8 @@
 -- The blocks of a pool, as they are now and as they were last kept.
-use Rattle.std.specs.Prelude.{◌≡◌, ◌⊎◌, ℕ, zero, suc, ◌+◌, ◌-◌, ◌*◌, ◌/◌, ◌%◌, ◌<◌, ◌≤◌, ◌&&◌, Bool, true, false, nat_lt, if◌then◌else◌, List, [], ◌∷◌, ◌++◌, length, replicate, slice_index, slice_index_or, slice_set}
+use Rattle.std.specs.Prelude.{◌≡◌, ◌⊎◌, ◌↔◌, ℕ, zero, suc, ◌+◌, ◌-◌, ◌*◌, ◌/◌, ◌%◌, ◌<◌, ◌≤◌, ◌&&◌, Bool, true, false, nat_lt, if◌then◌else◌, List, [], ◌∷◌, ◌++◌, length, replicate, slice_index, slice_index_or, slice_set}
+use Rattle.std.specs.List.{Contains}
 use Rattle.xr_base.specs.Image.{block_of, part}
-use Rattle.xr_base.specs.declared.geometry.TheConstants.{BLOCK_BYTES, BLOCKS, FILE_BLOCKS, FILES, FIRST_DATA_BLOCK, FIRST_FILE_BLOCK, FIRST_GROUP_BLOCK, FIRST_INODE, GROUP_BLOCKS, GROUPS}
+use Rattle.xr_base.specs.declared.geometry.TheConstants.{BLOCK_BYTES, BLOCKS, FILE_BLOCKS, FILES, FIRST_DATA_BLOCK, FIRST_FILE_BLOCK, FIRST_GROUP_BLOCK, FIRST_INODE, GROUP_BLOCKS, GROUPS, UUID_BYTES}
 use Rattle.xr_pool.specs.Bits.{has_bit, with_bit, without_bit}
 use Rattle.xr_pool.specs.Marks.{AreSameUnmarked, marked}
 
@@ -112,6 +113,13 @@ all_dropped b = record b { current = b.kept; changed = no_marks b.kept; free = b
 abbrev pub changed_blocks : Blocks → List ℕ
 changed_blocks b = marked 0 b.changed
 
+-- whether a block is one of them
+abbrev pub is_changed : Blocks → ℕ → Bool
+is_changed b n = slice_index_or b.changed n false
+
+abbrev pub ChangedAreMarked : Type 0
+ChangedAreMarked = (b : Blocks) (n : ℕ) → Contains (changed_blocks b) n ↔ (is_changed b n ≡ true)
+
 -- other bytes in a block
 abbrev pub with_block : Blocks → ℕ → List ℕ → Blocks
 with_block b n bytes = record b { current = slice_set b.current n bytes; changed = slice_set b.changed n true }
@@ -126,3 +134,10 @@ with_given b n = record b { free = with_bit b.free n }
 -- no blocks, in the same place
 abbrev pub emptied : Blocks → Blocks
 emptied b = record b { kept = []; current = []; changed = []; kept_free = []; free = [] }
+
+-- what is known of any overlay
+pub record AreKnown (b : Blocks) : Type 0 where
+  pub all : AreBlocks b
+  pub whole : AreWhole b.current
+  pub identified : length b.uuid ≡ UUID_BYTES
+  pub small : pool_size b ≤ BLOCKS

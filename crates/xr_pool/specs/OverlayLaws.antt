@@ -1,11 +1,13 @@
 -- What stays of an overlay's blocks where some change.
-use Rattle.std.proofs.Common.{◌≡◌, ◌≢◌, ℕ, zero, suc, ◌*◌, ◌/◌, ◌≤◌, Bool, true, false, List, [], ◌∷◌, length, get_or, set, refl, sym, ap, ◌∙◌, arith, ⊎_elim, ◌+◌, ◌<◌, replicate}
+use Rattle.std.proofs.Common.{◌≡◌, ◌≢◌, ℕ, zero, suc, ◌*◌, ◌/◌, ◌≤◌, Bool, true, false, List, [], ◌∷◌, length, get_or, set, refl, sym, ap, subst, ◌∙◌, arith, ⊎_elim, ◌+◌, ◌<◌, replicate}
 use Rattle.std.proofs.lemmas.Bool.{cases_eq}
+use Rattle.std.proofs.lemmas.List.Elements.{Contains-append_right}
 use Rattle.std.proofs.lemmas.List.{get_or-set_other, get_or-set_same, get_or_past, length-append, length-replicate, length-set}
+use Rattle.std.specs.List.{All, AllPairs, Contains}
 use Rattle.xr_base.specs.Image.{part}
 use Rattle.xr_base.specs.declared.geometry.TheConstants.{BLOCK_BYTES}
 use Rattle.xr_pool.specs.Marks.{marked}
-use Rattle.xr_pool.specs.Overlay.{AreBlocks, Blocks, IsFilePool, IsGroupPool, IsPool, block_at, blocks_in, changed_blocks, no_marks, opened, owner_of, pool_size, with_block}
+use Rattle.xr_pool.specs.Overlay.{AreBlocks, AreKnown, AreWhole, Blocks, ChangedAreMarked, IsFilePool, IsGroupPool, IsPool, block_at, blocks_in, changed_blocks, no_marks, opened, owner_of, pool_size, with_block}
 
 pub length-blocks_in : (n : ℕ) (bytes : List ℕ) → length (blocks_in n bytes) ≡ n
 unfolding blocks_in
@@ -94,3 +96,54 @@ none_marked k (suc n) = none_marked (suc k) n
 
 pub none_changed : (blocks : List (List ℕ)) → marked 0 (no_marks blocks) ≡ []
 none_changed blocks = none_marked 0 (length blocks)
+
+pub overlay_known : (b : Blocks) → AreBlocks b → AreWhole b.current → length b.uuid ≡ 16 → AreKnown b
+overlay_known b all whole identified = record { all = all; whole = whole; identified = identified; small = omega (arith, all.within_image) }
+
+-- the changed blocks are told in rising order, so each once
+marked_above : (n : ℕ) (marks : List Bool) → All (λ (m : ℕ). n ≤ m) (marked n marks)
+unfolding marked
+marked_above n [] k d within = absurd (omega (arith, within))
+marked_above n (true ∷ marks) zero d within = omega arith
+marked_above n (true ∷ marks) (suc k) d within = omega (arith, marked_above (suc n) marks k d (omega (arith, within)))
+marked_above n (false ∷ marks) k d within = omega (arith, marked_above (suc n) marks k d within)
+
+marked_rise : (n : ℕ) (marks : List Bool) → AllPairs (λ (i j : ℕ). i < j) (marked n marks)
+unfolding marked
+marked_rise n [] i j d before within = absurd (omega (arith, within))
+marked_rise n (true ∷ marks) zero zero d before within = absurd (omega arith)
+marked_rise n (true ∷ marks) zero (suc j) d before within = omega (arith, marked_above (suc n) marks j d (omega (arith, within)))
+marked_rise n (true ∷ marks) (suc i) zero d before within = absurd (omega arith)
+marked_rise n (true ∷ marks) (suc i) (suc j) d before within = marked_rise (suc n) marks i j d (omega arith) (omega (arith, within))
+marked_rise n (false ∷ marks) i j d before within = marked_rise (suc n) marks i j d before within
+
+pub changed_rise : (b : Blocks) → AllPairs (λ (i j : ℕ). i < j) (changed_blocks b)
+changed_rise b = marked_rise 0 b.changed
+
+-- a block is one of the changed ones exactly where it is marked
+marked_has : (n i : ℕ) (marks : List Bool) → get_or marks i false ≡ true → Contains (marked n marks) (n + i)
+unfolding marked
+marked_has n i [] is = absurd (let past = get_or_past [] i false (omega arith) in cc)
+marked_has n zero (true ∷ marks) is = (0, omega arith, omega arith)
+marked_has n zero (false ∷ marks) is = absurd cc
+marked_has n (suc i) (true ∷ marks) is =
+    let place : suc n + i ≡ n + suc i = omega arith in
+    Contains-append_right (n ∷ []) (marked (suc n) marks) (n + suc i) (subst (Contains (marked (suc n) marks)) place (marked_has (suc n) i marks is))
+marked_has n (suc i) (false ∷ marks) is =
+    let place : suc n + i ≡ n + suc i = omega arith in subst (Contains (marked (suc n) marks)) place (marked_has (suc n) i marks is)
+
+marked_only : (n m : ℕ) (marks : List Bool) → Contains (marked n marks) m → (i : ℕ) × (m ≡ n + i) × (get_or marks i false ≡ true)
+unfolding marked
+marked_only n m [] found = absurd (omega (arith, found.1))
+marked_only n m (true ∷ marks) (zero, within, is) = (0, omega (arith, is), refl)
+marked_only n m (true ∷ marks) (suc j, within, is) =
+    let rest = marked_only (suc n) m marks (j, omega (arith, within), is) in (suc rest.0, omega (arith, rest.1), rest.2)
+marked_only n m (false ∷ marks) found = let rest = marked_only (suc n) m marks found in (suc rest.0, omega (arith, rest.1), rest.2)
+
+pub changed_are_marked : ChangedAreMarked
+changed_are_marked b n = (
+  λ found.
+      let at = marked_only 0 n b.changed found in
+      let place : at.0 ≡ n = omega (arith, at.1) in subst (λ (i : ℕ). get_or b.changed i false ≡ true) place at.2,
+  λ is. let place : 0 + n ≡ n = omega arith in subst (Contains (changed_blocks b)) place (marked_has 0 n b.changed is),
+)

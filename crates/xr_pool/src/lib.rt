@@ -3,9 +3,11 @@
 #![tactic(auto)]
 
 pub mod bits;
+mod laws;
 mod marks;
 mod overlay;
 #[cfg(test)]
 mod tests;
 
+pub use laws::{changed_are_marked, used_blocks_leave_room};
 pub use overlay::{Block, Overlay};

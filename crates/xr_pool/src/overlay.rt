@@ -2,7 +2,8 @@
 ghost use Rattle.std.specs.Prelude.{◌≡◌, ℕ, ◌+◌, ◌*◌, ◌/◌, ◌%◌, ◌<◌, ◌≤◌, ◌↔◌, true, false, length, vec_len, slice_index, IsNone, IfSome, IfOk};
 ghost use Rattle.std.specs.Borrow.{sem};
 ghost use Rattle.xr_base.specs.Image.{block_of, part};
-ghost use Rattle.xr_pool.specs.Overlay.{AreBlocks, AreWhole, IsBlock, IsPool, all_dropped, all_kept, block_at, blocks_in, changed_blocks, emptied, is_free, opened, owner_of, pool_size, sector_at, with_given, with_taken};
+ghost use Rattle.xr_pool.specs.Overlay.{AreBlocks, AreWhole, IsBlock, IsPool, all_dropped, all_kept, block_at, blocks_in, changed_blocks};
+ghost use Rattle.xr_pool.specs.Overlay.{emptied, is_free, opened, owner_of, pool_size, sector_at, with_given, with_taken};
 ghost use Rattle.xr_pool.specs.Lending.{LendsBlock};
 
 use crate::bits::{clear_bit, first_bit, has_bit, set_bit};
@@ -40,9 +41,27 @@ impl Model for Overlay {
 
     ghost Value = { Blocks };
 
-    ghost view = { λ o. record { kept = o.kept.items; current = o.current.items; changed = o.changed.items; kept_free = o.kept_free.items; free = o.free.items; first = o.first; owner = o.owner; uuid = o.uuid } };
+    ghost view = { λ o. record {
+      kept = o.kept.items;
+      current = o.current.items;
+      changed = o.changed.items;
+      kept_free = o.kept_free.items;
+      free = o.free.items;
+      first = o.first;
+      owner = o.owner;
+      uuid = o.uuid;
+    } };
 
-    ghost invariant = { λ o. AreBlocks (record { kept = o.kept.items; current = o.current.items; changed = o.changed.items; kept_free = o.kept_free.items; free = o.free.items; first = o.first; owner = o.owner; uuid = o.uuid }) };
+    ghost invariant = { λ o. AreBlocks (record {
+      kept = o.kept.items;
+      current = o.current.items;
+      changed = o.changed.items;
+      kept_free = o.kept_free.items;
+      free = o.free.items;
+      first = o.first;
+      owner = o.owner;
+      uuid = o.uuid;
+    }) };
 }
 
 fn block_in(bytes: &[u8], n: usize) -> Block
@@ -128,26 +147,6 @@ impl Overlay {
         })
     }
 
-    /// Takes the blocks out, and leaves an overlay of none: for one who holds them as another value while they change, and
-    /// puts them back. No memory is taken.
-    pub fn take(&mut self) -> Overlay
-        ensures taken { result ≡ self.old }
-        ensures none { self.new ≡ emptied self.old }
-    {
-        let alloc = *self.kept.allocator();
-        let none = Overlay {
-            kept: Vec::new(alloc),
-            current: Vec::new(alloc),
-            changed: Vec::new(alloc),
-            kept_free: Vec::new(alloc),
-            free: Vec::new(alloc),
-            first: self.first,
-            owner: self.owner,
-            uuid: self.uuid,
-        };
-        mem::replace(self, none)
-    }
-
     /// The map of free blocks: bit `n % 8` of byte `n / 8`, the lowest first, is set exactly where block `n` is free.
     pub fn free(&self) -> &[u8]
         ensures { result.now ≡ self.now.free }
@@ -183,10 +182,14 @@ impl Overlay {
     pub fn change(&self, i: usize) -> (u32, &[u8])
         requires { i < length (changed_blocks self.now) }
         ensures place { result.0 ≡ self.now.first + slice_index (changed_blocks self.now) i }
+        ensures within { slice_index (changed_blocks self.now) i < pool_size self.now }
         ensures bytes { result.1.now ≡ block_at self.now (slice_index (changed_blocks self.now) i) }
+        ensures whole { IsBlock result.1.now }
     {
         let n = place_of_mark(&self.changed, i);
-        (self.first + n as u32, &self.current[n])
+        let block = &self.current[n];
+        is_whole(block);
+        (self.first + n as u32, block)
     }
 
     /// How many blocks there are, block 0 among them.
@@ -208,6 +211,30 @@ impl Overlay {
         ensures { result.now ≡ self.now.uuid }
     {
         &self.uuid
+    }
+}
+
+/// What those need who build trees in the pool. Who calls one of these may break a tree: contracts of trees say what each of
+/// their calls leaves, and nothing else should write a block or change the free map.
+impl Overlay {
+    /// Takes the blocks out, and leaves an overlay of none: for one who holds them as another value while they change, and
+    /// puts them back. No memory is taken.
+    pub fn take(&mut self) -> Overlay
+        ensures taken { result ≡ self.old }
+        ensures none { self.new ≡ emptied self.old }
+    {
+        let alloc = *self.kept.allocator();
+        let none = Overlay {
+            kept: Vec::new(alloc),
+            current: Vec::new(alloc),
+            changed: Vec::new(alloc),
+            kept_free: Vec::new(alloc),
+            free: Vec::new(alloc),
+            first: self.first,
+            owner: self.owner,
+            uuid: self.uuid,
+        };
+        mem::replace(self, none)
     }
 
     /// The image block of a block.

@@ -9,11 +9,13 @@ use Rattle.xr_record.specs.declared.fault.FeedFault.TheVariants.{Op, NoMemory}
 use Rattle.xr_record.specs.declared.operation.Fields.{Fields}
 use Rattle.xr_record.specs.declared.operation.Sort.{Sort}
 use Rattle.xr_record.specs.declared.rules.OpKind.{OpKind}
-use Rattle.xr_record.specs.Kept.{Completes, IsFault, Settles}
+use Rattle.xr_record.specs.ReaderFields.{Completes, IsFault, Settles}
 use Rattle.xr_record.specs.Operations.{Operation, fields, operation_bytes, sort_of}
 use Rattle.xr_base.specs.Fields.{AreBytes}
-use Rattle.xr_record.specs.Reading.{FailsOn, IsFaultOf, Reading, Reads, TakesOn}
-use Rattle.xr_record.specs.Rules.{AtEntry, Breaks, IsPartial, ReadsTo, State, body_fault, goes_on, header_fault, state_of, whole_fault, ReaderState, operation_body}
+use Rattle.xr_record.specs.Reading.{IsFaultOf, Reading, Reads}
+use Rattle.xr_record.specs.ReaderSteps.{FailsOn, TakesOn}
+use Rattle.xr_record.specs.Rules.{AtEntry, Breaks, IsPartial, ReadsTo, State, body_fault, header_fault, state_of, whole_fault, ReaderState, operation_body}
+use Rattle.xr_record.specs.ReaderSteps.{goes_on}
 use Rattle.xr_record.specs.Stream.{Between, IsPiece, Open, Piece, all_bytes, begun, entry, operations, stream_of}
 use Rattle.xr_record.specs.HeaderRuleLaws.{is_right}
 use Rattle.xr_record.specs.HoldLaws.{fields-append}

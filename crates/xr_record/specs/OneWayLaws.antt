@@ -13,7 +13,7 @@ use Rattle.xr_record.specs.declared.rules.OpKind.{OpKind}
 use Rattle.xr_record.specs.declared.rules.OpKind.TheVariants.{Header, Count}
 use Rattle.xr_record.specs.Operations.{Operation, client_of, fields, flags_of, operation_bytes, sort_of, raw_operation}
 use Rattle.xr_record.specs.Rules.{AtHeader, AtRegion, Breaks, IsPartial, State, body_fault, header_fault, is_client, is_header_body, is_len, is_tid, may_come, state_of, whole_fault, operation_body}
-use Rattle.xr_record.specs.Stream.{AreParts, Between, Begun, Cut, HasBytes, Inside, IsFront, IsOpen, IsPiece, Open, Piece, Transaction, Unmounting, Written, all_bytes, are_items, begun, commit, front, header_body, joined, later_parts, middle_part, operations, region, start, stream_of, transaction_header, unmount}
+use Rattle.xr_record.specs.Stream.{AreParts, Between, Begun, Cut, HasBytes, Inside, IsTransactionFront, IsOpenPiece, IsPiece, Open, Piece, Transaction, Unmounting, Written, all_bytes, are_items, begun, commit, transaction_front, header_body, joined, later_parts, middle_part, operations, region, start, stream_of, transaction_header, unmount}
 use Rattle.xr_record.specs.StreamLaws.{IsBadInOneWay, IsGoodOrBad, IsOneReading}
 use Rattle.xr_record.specs.HeaderRuleLaws.{right_header}
 use Rattle.xr_record.specs.OperationLaws.{joined_push}
@@ -162,7 +162,7 @@ goes_regions t (r ∷ rs) fits all =
 header_holds : (tid count : ℕ) → tid < 2 ^ 32 → is_header_body tid (header_body tid count) ≡ true
 header_holds tid count h = let e = little_number-reads_back 4 tid (little_bytes 4 count) h in rw e (eq-eqb tid tid refl)
 
-goes_front : (t : Written) → IsFront t → Goes Between (front t) [] (Inside t)
+goes_front : (t : Written) → IsTransactionFront t → Goes Between (transaction_front t) [] (Inside t)
 goes_front t f =
     let count : little_number 4 (drop 12 (header_body t.tid t.count)) ≡ t.count = little_number-reads_back 4 t.count [] f.count in
     let held = header_holds t.tid t.count f.tid in
@@ -182,7 +182,7 @@ goes_piece (Transaction t) w =
     let count : eqb t.count (length (map joined t.regions)) ≡ true = eq-eqb t.count (length (map joined t.regions)) (w.number ∙ sym (length-map t.regions joined)) in
     let fault : body_fault (AtRegion t.tid t.count (map joined t.regions)) Commit [] ≡ None =
     ap (λ (b : Bool). cond b None (Some Count)) (both_true (eqb t.count (length (map joined t.regions))) (are_items (map joined t.regions)) count w.items) in
-    goes_append Between (Inside t) Between (front t) (commit t.tid ∷ []) [] (Transaction t ∷ []) (goes_front t f)
+    goes_append Between (Inside t) Between (transaction_front t) (commit t.tid ∷ []) [] (Transaction t ∷ []) (goes_front t f)
     (goes_one (Inside t) (commit t.tid) [] [] Between (right_op (Inside t) (commit t.tid) f.tid (omega arith) refl (eq-eqb t.tid t.tid refl) refl fault) (goes_none Between))
 goes_piece Unmounting w = goes_one Between unmount [] [] Between (right_op Between unmount (omega arith) (omega arith) refl refl refl refl) (goes_none Between)
 
@@ -202,7 +202,7 @@ goes_middles t part before (next ∷ parts) fits each most =
     (right_op (Cut t part before) _ fits (omega arith) refl (eq-eqb t.tid t.tid refl) (room_true (length (joined (part ∷ before))) (length next) each.0 (omega arith)) refl)
     whole
 
-goes_begun : (o : Open) → IsOpen o → Goes Between (begun o) [] o
+goes_begun : (o : Open) → IsOpenPiece o → Goes Between (begun o) [] o
 goes_begun Between good = goes_none Between
 goes_begun (Begun tid) good = goes_one Between (start tid) [] [] (Begun tid) (right_op Between (start tid) good (omega arith) refl refl refl refl) (goes_none (Begun tid))
 goes_begun (Inside t) good = goes_front t good
@@ -210,7 +210,7 @@ goes_begun (Cut t part parts) good =
     let n = length-append part (joined parts) in
     let alone = length-append part [] in
     let most = good.1.most in
-    goes_append Between (Inside t) (Cut t part parts) (front t) _ [] [] (goes_front t good.0)
+    goes_append Between (Inside t) (Cut t part parts) (transaction_front t) _ [] [] (goes_front t good.0)
     (goes_one (Inside t) record { tid = t.tid; sort = First; body = part } (map (middle_part t.tid) parts) [] _
     (right_op (Inside t) _ good.0.tid (omega arith) refl (eq-eqb t.tid t.tid refl) (room_true 0 (length part) good.1.each.0 (omega arith)) refl)
     (goes_middles t part [] parts good.0.tid good.1.each.1 (omega arith)))
@@ -218,7 +218,7 @@ goes_begun (Cut t part parts) good =
 abbrev ops_of : List Piece → Open → List Operation
 ops_of ps o = flat_map operations ps ++ begun o
 
-goes_all : (ps : List Piece) (o : Open) → AllByRecursion IsPiece ps → IsOpen o → Goes Between (ops_of ps o) ps o
+goes_all : (ps : List Piece) (o : Open) → AllByRecursion IsPiece ps → IsOpenPiece o → Goes Between (ops_of ps o) ps o
 goes_all ps o all good =
     subst (λ (qs : List Piece). Goes Between (ops_of ps o) qs o) (append-nil ps)
     (goes_append Between Between o (flat_map operations ps) (begun o) ps [] (goes_pieces ps all) (goes_begun o good))
@@ -322,7 +322,7 @@ same_ops o (x ∷ xs) (y ∷ ys) r s p q k l e =
     (same_cons x y xs ys first.0 rest.0, rest.1)
 
 -- one cut of a stream
-one_cut : (ps qs : List Piece) (o p : Open) (r s : List ℕ) → AllByRecursion IsPiece ps → IsOpen o → AllByRecursion IsPiece qs → IsOpen p
+one_cut : (ps qs : List Piece) (o p : Open) (r s : List ℕ) → AllByRecursion IsPiece ps → IsOpenPiece o → AllByRecursion IsPiece qs → IsOpenPiece p
     → IsStuck o r → IsStuck p s → stream_of ps o r ≡ stream_of qs p s → (ps ≡ qs) × (o ≡ p) × (r ≡ s)
 one_cut ps qs o p r s all good all' good' k l e =
     let g = goes_all ps o all good in

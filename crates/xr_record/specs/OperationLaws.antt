@@ -19,8 +19,9 @@ use Rattle.xr_record.specs.declared.rules.OpKind.{OpKind}
 use Rattle.xr_record.specs.declared.rules.OpKind.TheVariants.{Header, Count}
 use Rattle.xr_record.specs.Operations.{Operation, client_of, fields, flags_of, operation_bytes, sort_of, raw_operation}
 use Rattle.xr_base.specs.Fields.{AreBytes}
-use Rattle.xr_record.specs.Rules.{State, AtPart, AtRegion, body_fault, goes_on, is_client, is_header_body, state_of}
-use Rattle.xr_record.specs.Stream.{AreFirstParts, AreParts, Between, Begun, Cut, HasBytes, Inside, IsFront, IsOpen, IsPiece, Open, Piece, Transaction, Unmounting, Written, are_items, begun, commit, entry, front, header_body, joined, later_parts, middle_part, operations, region, start, transaction_header, unmount_body}
+use Rattle.xr_record.specs.Rules.{State, AtPart, AtRegion, body_fault, is_client, is_header_body, state_of}
+use Rattle.xr_record.specs.ReaderSteps.{goes_on}
+use Rattle.xr_record.specs.Stream.{AreFirstParts, AreParts, Between, Begun, Cut, HasBytes, Inside, IsTransactionFront, IsOpenPiece, IsPiece, Open, Piece, Transaction, Unmounting, Written, are_items, begun, commit, entry, transaction_front, header_body, joined, later_parts, middle_part, operations, region, start, transaction_header, unmount_body}
 use Rattle.xr_record.specs.HeaderRuleLaws.{IsRight}
 use Rattle.xr_record.specs.StampLaws.{big_bytes-number}
 use Rattle.xr_record.specs.UnsealLaws.{little_bytes-number}
@@ -58,7 +59,7 @@ region_push tid part (next ∷ parts) body =
 regions_push : (tid : ℕ) (regions : List (List (List ℕ))) (parts : List (List ℕ)) → flat_map (region tid) (regions ++ parts ∷ []) ≡ flat_map (region tid) regions ++ region tid parts
 regions_push tid regions parts = flat_map-append (region tid) regions (parts ∷ []) ∙ ap (λ (os : List Operation). flat_map (region tid) regions ++ os) (append-nil (region tid parts))
 
-front_push : (t : Written) (parts : List (List ℕ)) → front t ++ region t.tid parts ≡ front record t { regions = t.regions ++ parts ∷ [] }
+front_push : (t : Written) (parts : List (List ℕ)) → transaction_front t ++ region t.tid parts ≡ transaction_front record t { regions = t.regions ++ parts ∷ [] }
 front_push t parts = ap (λ (os : List Operation). start t.tid ∷ transaction_header t.tid t.count ∷ os) (sym (regions_push t.tid t.regions parts))
 
 -- Headers of transactions
@@ -171,7 +172,7 @@ pub record Steps (o : Open) (op : Operation) (entries : List Entry) (state : Sta
   pub next : Open
   pub written : begun o ++ op ∷ [] ≡ flat_map operations pieces ++ begun next
   pub each : AllByRecursion IsPiece pieces
-  pub good : IsOpen next
+  pub good : IsOpenPiece next
   pub entries_are : entries ≡ map entry pieces
   pub state_is : state ≡ state_of next
 
@@ -231,7 +232,7 @@ step_header own tid body fits t small e =
       state_is = refl;
     }
 
-step_whole : (t : Written) (tid : ℕ) (body : List ℕ) → IsFront t → tid ≡ t.tid → 0 < length body → length body ≤ 4096
+step_whole : (t : Written) (tid : ℕ) (body : List ℕ) → IsTransactionFront t → tid ≡ t.tid → 0 < length body → length body ≤ 4096
     → Steps (Inside t) record { tid = tid; sort = Whole; body = body } [] (AtRegion t.tid t.count (map joined t.regions ++ body ∷ []))
 step_whole t tid body f e some most =
     let alone : joined (body ∷ []) ≡ body = append-nil body in
@@ -249,7 +250,7 @@ step_whole t tid body f e some most =
       state_is = ap (AtRegion t.tid t.count) (sym (map_push t.regions (body ∷ []) ∙ ap (λ (xs : List ℕ). map joined t.regions ++ xs ∷ []) alone));
     }
 
-step_first : (t : Written) (tid : ℕ) (body : List ℕ) → IsFront t → tid ≡ t.tid → 0 < length body → length body ≤ 4096
+step_first : (t : Written) (tid : ℕ) (body : List ℕ) → IsTransactionFront t → tid ≡ t.tid → 0 < length body → length body ≤ 4096
     → Steps (Inside t) record { tid = tid; sort = First; body = body } [] (AtPart t.tid t.count (map joined t.regions) body)
 step_first t tid body f e some most =
     let alone : joined (body ∷ []) ≡ body = append-nil body in
@@ -263,19 +264,19 @@ step_first t tid body f e some most =
       state_is = ap (AtPart t.tid t.count (map joined t.regions)) (sym alone);
     }
 
-step_commit : (t : Written) (tid : ℕ) (body : List ℕ) → IsFront t → tid ≡ t.tid → length body ≡ 0 → t.count ≡ length t.regions → are_items (map joined t.regions) ≡ true
+step_commit : (t : Written) (tid : ℕ) (body : List ℕ) → IsTransactionFront t → tid ≡ t.tid → length body ≡ 0 → t.count ≡ length t.regions → are_items (map joined t.regions) ≡ true
     → Steps (Inside t) record { tid = tid; sort = Commit; body = body } (seen.Trans t.tid (map joined t.regions) ∷ []) (state_of Between)
 step_commit t tid body f e len number items = record {
   pieces = Transaction t ∷ [];
   next = Between;
-  written = rw (e, nil_from_length body len) (sym (append-nil (front t ++ commit t.tid ∷ [] ++ []) ∙ append-nil (front t ++ commit t.tid ∷ [])));
+  written = rw (e, nil_from_length body len) (sym (append-nil (transaction_front t ++ commit t.tid ∷ [] ++ []) ∙ append-nil (transaction_front t ++ commit t.tid ∷ [])));
   each = (record { front_is = f; number = number; items = items }, tt);
   good = tt;
   entries_are = refl;
   state_is = refl;
 }
 
-step_middle : (t : Written) (part : List ℕ) (parts : List (List ℕ)) (tid : ℕ) (body : List ℕ) → IsFront t → AreFirstParts part parts → tid ≡ t.tid
+step_middle : (t : Written) (part : List ℕ) (parts : List (List ℕ)) (tid : ℕ) (body : List ℕ) → IsTransactionFront t → AreFirstParts part parts → tid ≡ t.tid
     → 0 < length body → length (joined (part ∷ parts)) + length body ≤ 4096
     → Steps (Cut t part parts) record { tid = tid; sort = Middle; body = body } [] (AtPart t.tid t.count (map joined t.regions) (joined (part ∷ parts) ++ body))
 step_middle t part parts tid body f p e some most =
@@ -283,14 +284,14 @@ step_middle t part parts tid body f p e some most =
     record {
       pieces = [];
       next = Cut t part (parts ++ body ∷ []);
-      written = rw (e, map-append (middle_part t.tid) parts (body ∷ [])) (append_assoc (front t) (cut_first t.tid part ∷ map (middle_part t.tid) parts) (middle_part t.tid body ∷ []));
+      written = rw (e, map-append (middle_part t.tid) parts (body ∷ [])) (append_assoc (transaction_front t) (cut_first t.tid part ∷ map (middle_part t.tid) parts) (middle_part t.tid body ∷ []));
       each = tt;
       good = (f, record { each = all_push HasBytes (part ∷ parts) body p.each some; most = rw (more, length-append (joined (part ∷ parts)) body) most });
       entries_are = refl;
       state_is = ap (AtPart t.tid t.count (map joined t.regions)) (sym more);
     }
 
-step_last : (t : Written) (part : List ℕ) (parts : List (List ℕ)) (tid : ℕ) (body : List ℕ) → IsFront t → AreFirstParts part parts → tid ≡ t.tid
+step_last : (t : Written) (part : List ℕ) (parts : List (List ℕ)) (tid : ℕ) (body : List ℕ) → IsTransactionFront t → AreFirstParts part parts → tid ≡ t.tid
     → 0 < length body → length (joined (part ∷ parts)) + length body ≤ 4096
     → Steps (Cut t part parts) record { tid = tid; sort = Last; body = body } [] (AtRegion t.tid t.count (map joined t.regions ++ (joined (part ∷ parts) ++ body) ∷ []))
 step_last t part parts tid body f p e some most =
@@ -300,7 +301,7 @@ step_last t part parts tid body f p e some most =
     record {
       pieces = [];
       next = Inside record t { regions = t.regions ++ all ∷ [] };
-      written = rw e (append_assoc (front t) (cut_first t.tid part ∷ map (middle_part t.tid) parts) (last ∷ []) ∙ ap (λ (os : List Operation). front t ++ os) (sym (region_push t.tid part parts body)) ∙ front_push t all);
+      written = rw e (append_assoc (transaction_front t) (cut_first t.tid part ∷ map (middle_part t.tid) parts) (last ∷ []) ∙ ap (λ (os : List Operation). transaction_front t ++ os) (sym (region_push t.tid part parts body)) ∙ front_push t all);
       each = tt;
       good = record {
         tid = f.tid;
@@ -316,7 +317,7 @@ step_last t part parts tid body f p e some most =
     }
 
 -- an operation that breaks no rule
-pub step : (o : Open) (f : Fields) (sort : Sort) (body : List ℕ) → IsOpen o → IsRight (state_of o) f sort → f.tid < 2 ^ 32 → f.len ≡ length body → AreBytes body
+pub step : (o : Open) (f : Fields) (sort : Sort) (body : List ℕ) → IsOpenPiece o → IsRight (state_of o) f sort → f.tid < 2 ^ 32 → f.len ≡ length body → AreBytes body
     → body_fault (state_of o) sort body ≡ None
     → Steps o record { tid = f.tid; sort = sort; body = body } (goes_on (state_of o) sort f.tid body).0 (goes_on (state_of o) sort f.tid body).1
 step Between f Start body good r fits len small fault = step_start f.tid body fits (sym len ∙ eqb-true f.len 0 r.len)

@@ -1,7 +1,7 @@
 -- The operations of a log: what each of them is, its bytes, and the fields of its header.
-use Rattle.std.specs.Prelude.{ℕ, ◌<◌, ◌==◌, if◌then◌else◌, List, ◌∷◌, ◌++◌, length, drop, slice_index, Option, Some, None}
+use Rattle.std.specs.Prelude.{ℕ, ◌==◌, if◌then◌else◌, List, ◌∷◌, ◌++◌, length, drop, slice_index, Option, Some, None}
 use Rattle.byteorder.specs.Endian.{big_bytes, big_number}
-use Rattle.xr_record.specs.declared.layout.TheConstants.{COMMIT, CONTINUE, LAST_FLAGS, LOG_CLIENT, MIDDLE_FLAGS, START, TRANSACTION_CLIENT, UNMOUNT}
+use Rattle.xr_record.specs.declared.layout.TheConstants.{CLIENT_PLACE, COMMIT, CONTINUE, FLAGS_PLACE, LAST_FLAGS, LOG_CLIENT, MIDDLE_FLAGS, OPERATION_LEN_PLACE, OPERATION_ZEROS_PLACE, START, TRANSACTION_CLIENT, UNMOUNT}
 use Rattle.xr_record.specs.declared.operation.Fields.{Fields}
 use Rattle.xr_record.specs.declared.operation.Sort.{Sort}
 use Rattle.xr_record.specs.declared.operation.Sort.TheVariants.{Start, Whole, First, Middle, Last, Commit, Unmount}
@@ -48,8 +48,8 @@ operation_bytes o = raw_operation o.tid (client_of o.sort) (flags_of o.sort) o.b
 abbrev pub fields : List ℕ → Fields
 fields bytes = record {
   tid = big_number 4 bytes;
-  len = big_number 4 (drop 4 bytes);
-  client = slice_index bytes 8;
-  flags = slice_index bytes 9;
-  zeros = big_number 2 (drop 10 bytes);
+  len = big_number 4 (drop OPERATION_LEN_PLACE bytes);
+  client = slice_index bytes CLIENT_PLACE;
+  flags = slice_index bytes FLAGS_PLACE;
+  zeros = big_number 2 (drop OPERATION_ZEROS_PLACE bytes);
 }

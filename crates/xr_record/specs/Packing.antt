@@ -1,5 +1,5 @@
 -- What a packer writes of a region, and that this is what the grammar says.
-use Rattle.std.specs.Prelude.{◌≡◌, ◌==◌, ◌⊎◌, ◌<◌, ◌≤◌, ◌+◌, ◌-◌, ◌*◌, ℕ, List, [], ◌∷◌, ◌++◌, length, min, take, drop, if◌then◌else◌}
+use Rattle.std.specs.Prelude.{◌≡◌, ◌==◌, ◌⊎◌, ◌<◌, ◌+◌, ◌-◌, ℕ, List, [], ◌∷◌, ◌++◌, length, min, take, drop, if◌then◌else◌}
 use Rattle.std.specs.List.{AllByRecursion}
 use Rattle.xr_record.specs.declared.layout.TheConstants.{COMMIT, CONTINUE, LAST_FLAGS, LOG_CLIENT, MIDDLE_FLAGS, OPERATION_BYTES, START, TRANSACTION_CLIENT, UNMOUNT}
 use Rattle.xr_base.specs.declared.layout.TheConstants.{MAX_BODY_BYTES}
@@ -53,9 +53,3 @@ pub record Pushes (old new : Packed) (tid client flags : ℕ) (region : List ℕ
   pub stop_is : stop ≡ stop_of (room_in old.body) from (length region)
   pub body : new.body ≡ old.body ++ part_bytes tid client flags region from stop
   pub ops : new.ops ≡ old.ops + 1
-
--- what a packer keeps of its body's length, the memory for it, and its operations, each of which has a header
-pub record IsPacking (len capacity ops : ℕ) : Type 0 where
-  pub most : len ≤ MAX_BODY_BYTES
-  pub capacity_is : MAX_BODY_BYTES ≤ capacity
-  pub each : OPERATION_BYTES * ops ≤ len

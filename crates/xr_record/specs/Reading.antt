@@ -1,5 +1,5 @@
 -- What a reader promises: that the pieces so far, joined, are the entries that it answered and what it keeps.
-use Rattle.std.specs.Prelude.{◌≡◌, ◌<◌, ◌^◌, ℕ, List, ◌++◌, length, Option, None}
+use Rattle.std.specs.Prelude.{◌≡◌, ◌<◌, ◌^◌, ℕ, List, length, Option, None}
 use Rattle.xr_record.specs.declared.entry.Entry.{Entry}
 use Rattle.xr_record.specs.declared.fault.FeedFault.{FeedFault}
 use Rattle.xr_record.specs.declared.fault.FeedFault.TheVariants.{Op, NoMemory}
@@ -19,12 +19,3 @@ pub record Reads (bytes : List ℕ) (entries : List Entry) (reader : Reading) : 
 abbrev pub IsFaultOf : List ℕ → FeedFault → Type 0
 IsFaultOf bytes (Op place kind) = (at : ℕ) × IsBad bytes at kind × (length bytes < 2 ^ 64 → place ≡ at)
 IsFaultOf bytes NoMemory = Unit {0}
-
--- whatever the bytes and the entries so far, these bytes add these entries
-abbrev pub TakesOn : ReaderState → ReaderState → List ℕ → List Entry → Type 0
-TakesOn old new taken entries =
-    (before : List ℕ) (es : List Entry) → ReadsTo before es old → ReadsTo (before ++ taken) (es ++ entries) new
-
--- whatever the bytes so far, with these they are bad in this way
-abbrev pub FailsOn : ReaderState → List ℕ → FeedFault → Type 0
-FailsOn old taken fault = (before : List ℕ) (es : List Entry) → ReadsTo before es old → IsFaultOf (before ++ taken) fault

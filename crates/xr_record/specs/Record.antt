@@ -2,7 +2,7 @@
 use Rattle.std.specs.Prelude.{◌≡◌, ℕ, zero, suc, ◌+◌, ◌-◌, ◌*◌, ◌/◌, ◌^◌, ◌<◌, ◌≤◌, List, [], ◌++◌, length, take, drop, replicate}
 use Rattle.byteorder.specs.Endian.{big_bytes, little_bytes}
 use Rattle.xr_base.specs.Checksum.{checksum_of}
-use Rattle.xr_base.specs.declared.geometry.TheConstants.{LOG_SECTORS, SECTOR_BYTES, CYCLES}
+use Rattle.xr_base.specs.declared.geometry.TheConstants.{LOG_SECTORS, SECTOR_BYTES, CYCLES, UUID_BYTES}
 use Rattle.xr_record.specs.declared.head.Lsn.{Lsn}
 use Rattle.xr_record.specs.declared.head.Head.{Head}
 use Rattle.xr_record.specs.declared.layout.TheConstants.{WORDS_BYTES, ZEROS_BYTES}
@@ -51,17 +51,17 @@ abbrev pub fields_after : Head → List ℕ
 fields_after head = big_bytes 4 RECORD_FORMAT ++ head.uuid ++ big_bytes 4 MAX_BODY_BYTES ++ zeros ZEROS_BYTES
 
 -- the header's sector, with the words of these first n body sectors and this checksum
-abbrev pub header : Head → ℕ → List ℕ → ℕ → List ℕ
-header head n body checksum =
+abbrev pub header_sector : Head → ℕ → List ℕ → ℕ → List ℕ
+header_sector head n body checksum =
     fields_before head checksum ++ (moved n body ++ zeros (WORDS_BYTES - 4 * n)) ++ fields_after head
 
 -- the sectors of a record with this body, as if it had this checksum
 abbrev pub sectors_with : ℕ → Head → List ℕ → List ℕ
 sectors_with checksum head body =
-    header head (sectors_of head.len) (padded_body body) checksum
+    header_sector head (sectors_of head.len) (padded_body body) checksum
     ++ stamped (big_bytes 4 head.lsn.cycle) (sectors_of head.len) (padded_body body)
 
--- the sectors of a record_sectors record: the checksum is that of the record without one
+-- the sectors of a sealed record: the checksum is that of the record without one
 abbrev pub record_sectors : Head → List ℕ → List ℕ
 record_sectors head body = sectors_with (checksum_of (sectors_with 0 head body)) head body
 
@@ -71,7 +71,7 @@ pub record IsStored (head : Head) : Type 0 where
   pub ops : head.ops < 2 ^ 32
   pub round : head.tail.cycle < 2 ^ 32
   pub sector : head.tail.sector < 2 ^ 32
-  pub uuid : length head.uuid ≡ 16
+  pub uuid : length head.uuid ≡ UUID_BYTES
 
 -- what may stand in a header
 pub record IsGoodHead (head : Head) : Type 0 where
@@ -82,7 +82,7 @@ pub record IsGoodHead (head : Head) : Type 0 where
   pub cycle : head.lsn.cycle < CYCLES
   pub tail : lsn_number head.tail ≤ lsn_number head.lsn
 
--- the bytes begin with the record_sectors record of this header and this body
+-- the bytes begin with the sealed record of this header and this body
 pub record IsSealed (bytes : List ℕ) (head : Head) (body : List ℕ) : Type 0 where
   pub good : IsGoodHead head
   pub stored : IsStored head

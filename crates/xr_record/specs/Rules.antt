@@ -1,18 +1,17 @@
 -- The rules that each operation is tested by, in their order, and what a stream is that keeps or breaks them.
-use Rattle.std.specs.Prelude.{◌≡◌, ◌⊎◌, ◌==◌, ◌&&◌, ◌||◌, ◌<◌, ◌≤◌, ◌+◌, ◌/◌, ◌%◌, ◌^◌, ℕ, Bool, true, false, List, [], ◌∷◌, ◌++◌, length, map, nat_lt, nat_le, if◌then◌else◌, take, drop, Option, Some, None}
+use Rattle.std.specs.Prelude.{◌≡◌, ◌⊎◌, ◌==◌, ◌&&◌, ◌||◌, ◌<◌, ◌≤◌, ◌+◌, ◌/◌, ◌%◌, ◌^◌, ℕ, Bool, true, false, List, ◌∷◌, length, map, nat_lt, nat_le, if◌then◌else◌, take, drop, Option, Some, None}
 use Rattle.std.specs.List.{AllByRecursion}
 use Rattle.std.specs.Str.{bytes_eq}
 use Rattle.byteorder.specs.Endian.{little_number}
 use Rattle.xr_record.specs.declared.entry.Entry.{Entry}
-use Rattle.xr_record.specs.declared.entry.Entry.TheVariants as seen
-use Rattle.xr_record.specs.declared.layout.TheConstants.{LOG_CLIENT, MOST_REGION_BYTES, OPERATION_BYTES, TRANSACTION_CLIENT, TRANSACTION_MAGIC, TRANSACTION_TYPE}
+use Rattle.xr_record.specs.declared.layout.TheConstants.{LOG_CLIENT, MOST_REGION_BYTES, OPERATION_BYTES, TRANSACTION_CLIENT, TRANSACTION_HEADER_BYTES, TRANSACTION_MAGIC, TRANSACTION_TID_PLACE, TRANSACTION_TYPE, TRANSACTION_TYPE_PLACE, UNMOUNT, UNMOUNT_BODY_BYTES}
 use Rattle.xr_record.specs.declared.operation.Fields.{Fields}
 use Rattle.xr_record.specs.declared.operation.Sort.{Sort}
 use Rattle.xr_record.specs.declared.operation.Sort.TheVariants.{Start, Whole, First, Middle, Last, Commit, Unmount}
 use Rattle.xr_record.specs.declared.rules.OpKind.{OpKind}
 use Rattle.xr_record.specs.declared.rules.OpKind.TheVariants.{Client, Flags, Tid, Length, Header, Count}
 use Rattle.xr_record.specs.Operations.{fields, sort_of}
-use Rattle.xr_record.specs.Stream.{Piece, Open, Between, Begun, Inside, Cut, IsOpen, IsPiece, are_items, entry, joined, stream_of, unmount_body}
+use Rattle.xr_record.specs.Stream.{Piece, Open, Between, Begun, Inside, Cut, IsOpenPiece, IsPiece, are_items, entry, joined, stream_of, unmount_body}
 
 -- what the rules look at of what is open: its regions, each joined
 pub data State : Type 0 where
@@ -29,7 +28,7 @@ state_of (Cut t part parts) = AtPart t.tid t.count (map joined t.regions) (joine
 
 -- a log client's operation has the flag of an unmount, whatever others it has
 abbrev pub is_client : Fields → Bool
-is_client f = f.client == TRANSACTION_CLIENT || (f.client == LOG_CLIENT && (f.flags / 32) % 2 == 1)
+is_client f = f.client == TRANSACTION_CLIENT || (f.client == LOG_CLIENT && (f.flags / UNMOUNT) % 2 == 1)
 
 -- which sort may come
 abbrev pub may_come : State → Sort → Bool
@@ -55,11 +54,11 @@ abbrev pub is_region_len : ℕ → ℕ → Bool
 is_region_len before len = nat_lt 0 len && nat_le (before + len) MOST_REGION_BYTES
 
 abbrev pub is_len : State → Sort → ℕ → Bool
-is_len (AtHeader tid) sort len = len == 16
+is_len (AtHeader tid) sort len = len == TRANSACTION_HEADER_BYTES
 is_len (AtPart tid count regions part) sort len = is_region_len (length part) len
 is_len state Start len = len == 0
 is_len state Commit len = len == 0
-is_len state Unmount len = len == 8
+is_len state Unmount len = len == UNMOUNT_BODY_BYTES
 is_len state sort len = is_region_len 0 len
 
 -- the first rule that the header of an operation breaks
@@ -73,7 +72,8 @@ header_fault state f = if is_client f then sort_fault state f (sort_of f.client 
 
 abbrev pub is_header_body : ℕ → List ℕ → Bool
 is_header_body tid body =
-    length body == 16 && little_number 4 body == TRANSACTION_MAGIC && little_number 4 (drop 4 body) == TRANSACTION_TYPE && little_number 4 (drop 8 body) == tid
+    length body == TRANSACTION_HEADER_BYTES && little_number 4 body == TRANSACTION_MAGIC && little_number 4 (drop TRANSACTION_TYPE_PLACE body) == TRANSACTION_TYPE
+    && little_number 4 (drop TRANSACTION_TID_PLACE body) == tid
 
 -- and the first that a whole operation with a right header breaks
 abbrev pub body_fault : State → Sort → List ℕ → Option OpKind
@@ -109,7 +109,7 @@ pub record IsPartial (state : State) (bytes : List ℕ) : Type 0 where
 pub record IsStream (bytes : List ℕ) (pieces : List Piece) (o : Open) (rest : List ℕ) : Type 0 where
   pub whole : bytes ≡ stream_of pieces o rest
   pub each : AllByRecursion IsPiece pieces
-  pub good : IsOpen o
+  pub good : IsOpenPiece o
   pub partial : IsPartial (state_of o) rest
 
 -- the operation that begins at a place breaks a rule, and all before it are right
@@ -119,20 +119,9 @@ pub record IsBad (bytes : List ℕ) (place : ℕ) (kind : OpKind) : Type 0 where
   pub rest : List ℕ
   pub whole : bytes ≡ stream_of pieces o rest
   pub each : AllByRecursion IsPiece pieces
-  pub good : IsOpen o
+  pub good : IsOpenPiece o
   pub place_is : place + length rest ≡ length bytes
   pub breaks : Breaks (state_of o) rest kind
-
--- what an operation with a right header and body makes of what is open
-abbrev pub goes_on : State → Sort → ℕ → List ℕ → List Entry × State
-goes_on AtEntry Unmount tid body = (seen.Unmount ∷ [], AtEntry)
-goes_on AtEntry sort tid body = ([], AtHeader tid)
-goes_on (AtHeader own) sort tid body = ([], AtRegion own (little_number 4 (drop 12 body)) [])
-goes_on (AtRegion own count regions) Commit tid body = (seen.Trans own regions ∷ [], AtEntry)
-goes_on (AtRegion own count regions) First tid body = ([], AtPart own count regions body)
-goes_on (AtRegion own count regions) sort tid body = ([], AtRegion own count (regions ++ body ∷ []))
-goes_on (AtPart own count regions part) Last tid body = ([], AtRegion own count (regions ++ (part ++ body) ∷ []))
-goes_on (AtPart own count regions part) sort tid body = ([], AtPart own count regions (part ++ body))
 
 -- what a reader keeps: what is open, and the place and the bytes of the operation that isn't whole
 pub record ReaderState : Type 0 where

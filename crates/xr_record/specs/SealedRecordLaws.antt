@@ -1,4 +1,4 @@
--- That a record_sectors record keeps each rule, and holds its header's values.
+-- That a sealed record keeps each rule, and holds its header's values.
 use Rattle.std.proofs.Common.{◌≡◌, ℕ, ◌+◌, ◌-◌, ◌*◌, ◌<◌, ◌≤◌, ◌^◌, List, [], ◌++◌, length, slice_range, take, drop, refl, sym, ap, subst, ◌∙◌, arith}
 use Rattle.std.proofs.lemmas.List.{append_assoc, drop-drop, drop_at, length-append, length-replicate, take_at}
 use Rattle.std.proofs.lemmas.List.Elements.{All-replicate}
@@ -90,9 +90,9 @@ sealed_version bytes head body s =
       size = ap (big_number 4) size;
     }
 
-length-record_sectors : (head : Head) (body : List ℕ) (sum : ℕ) → length body ≡ head.len → head.len ≤ 32768 → length head.uuid ≡ 16
+pub length-sectors_with : (head : Head) (body : List ℕ) (sum : ℕ) → length body ≡ head.len → head.len ≤ 32768 → length head.uuid ≡ 16
     → length (sectors_with sum head body) ≡ 512 + 512 * count head
-length-record_sectors head body sum e most uuid =
+length-sectors_with head body sum e most uuid =
     let f = fields_before head sum in
     let w = words head body in
     let a = fields_after head in
@@ -103,7 +103,7 @@ length-record_sectors head body sum e most uuid =
 pub sealed_length : (bytes : List ℕ) (head : Head) (body : List ℕ) → IsSealed bytes head body → HasLength bytes
 sealed_length bytes head body s =
     let len = sealed_len bytes head body s in
-    let all = length-record_sectors head body (sum head body) s.length_is s.good.fits s.stored.uuid in
+    let all = length-sectors_with head body (sum head body) s.length_is s.good.fits s.stored.uuid in
     let whole : length bytes ≡ 512 + 512 * count head + length s.rest = ap length s.bytes_are ∙ length-append (record_sectors head body) s.rest ∙ ap (λ (n : ℕ). n + length s.rest) all in
     let room : 512 + 512 * count head ≤ length bytes = omega arith in
     record {
@@ -118,7 +118,7 @@ bare head body sum = refl
 
 pub sealed_sum : (bytes : List ℕ) (head : Head) (body : List ℕ) → IsSealed bytes head body → checksum_in bytes ≡ sum head body
 sealed_sum bytes head body s =
-    let all = length-record_sectors head body (sum head body) s.length_is s.good.fits s.stored.uuid in
+    let all = length-sectors_with head body (sum head body) s.length_is s.good.fits s.stored.uuid in
     let whole : take (512 + 512 * count head) bytes ≡ record_sectors head body = ap (take (512 + 512 * count head)) s.bytes_are ∙ take_at (record_sectors head body) s.rest (512 + 512 * count head) all in
     subst (λ (n : ℕ). checksum_of (without_four 32 (take (512 + 512 * sectors_of n) bytes)) ≡ sum head body) (sym (sealed_len bytes head body s))
     (ap (λ (xs : List ℕ). checksum_of (without_four 32 xs)) whole ∙ ap checksum_of (bare head body (sum head body)))

@@ -49,11 +49,11 @@ pub data Piece : Type 0 where
   Unmounting : Piece
 
 -- its operations up to the last whole region
-abbrev pub front : Written → List Operation
-front t = start t.tid ∷ transaction_header t.tid t.count ∷ flat_map (region t.tid) t.regions
+abbrev pub transaction_front : Written → List Operation
+transaction_front t = start t.tid ∷ transaction_header t.tid t.count ∷ flat_map (region t.tid) t.regions
 
 abbrev pub operations : Piece → List Operation
-operations (Transaction t) = front t ++ commit t.tid ∷ []
+operations (Transaction t) = transaction_front t ++ commit t.tid ∷ []
 operations Unmounting = unmount ∷ []
 
 -- what stands after the last whole piece: nothing, a START, some regions, or also the first parts of a region
@@ -69,8 +69,8 @@ middle_part tid part = record { tid = tid; sort = Middle; body = part }
 abbrev pub begun : Open → List Operation
 begun Between = []
 begun (Begun tid) = start tid ∷ []
-begun (Inside t) = front t
-begun (Cut t part parts) = front t ++ record { tid = t.tid; sort = First; body = part } ∷ map (middle_part t.tid) parts
+begun (Inside t) = transaction_front t
+begun (Cut t part parts) = transaction_front t ++ record { tid = t.tid; sort = First; body = part } ∷ map (middle_part t.tid) parts
 
 -- the parts of a region, joined
 abbrev pub joined : List (List ℕ) → List ℕ
@@ -106,13 +106,13 @@ pub record AreParts (parts : List (List ℕ)) : Type 0 where
   pub each : AllByRecursion HasBytes parts
   pub most : length (joined parts) ≤ MOST_REGION_BYTES
 
-pub record IsFront (t : Written) : Type 0 where
+pub record IsTransactionFront (t : Written) : Type 0 where
   pub tid : t.tid < 2 ^ 32
   pub count : t.count < 2 ^ 32
   pub regions : AllByRecursion AreParts t.regions
 
 pub record IsTransaction (t : Written) : Type 0 where
-  pub front_is : IsFront t
+  pub front_is : IsTransactionFront t
   pub number : t.count ≡ length t.regions
   pub items : are_items (map joined t.regions) ≡ true
 
@@ -125,11 +125,11 @@ pub record AreFirstParts (part : List ℕ) (parts : List (List ℕ)) : Type 0 wh
   pub each : AllByRecursion HasBytes (part ∷ parts)
   pub most : length (joined (part ∷ parts)) ≤ MOST_REGION_BYTES
 
-abbrev pub IsOpen : Open → Type 0
-IsOpen Between = Unit {0}
-IsOpen (Begun tid) = tid < 2 ^ 32
-IsOpen (Inside t) = IsFront t
-IsOpen (Cut t part parts) = IsFront t × AreFirstParts part parts
+abbrev pub IsOpenPiece : Open → Type 0
+IsOpenPiece Between = Unit {0}
+IsOpenPiece (Begun tid) = tid < 2 ^ 32
+IsOpenPiece (Inside t) = IsTransactionFront t
+IsOpenPiece (Cut t part parts) = IsTransactionFront t × AreFirstParts part parts
 
 -- the bytes of pieces, of what stands after them, and of less than a whole operation
 abbrev pub all_bytes : List Operation → List ℕ

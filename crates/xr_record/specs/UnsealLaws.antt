@@ -1,4 +1,4 @@
--- That bytes that keep the rules are those of a record_sectors record.
+-- That bytes that keep the rules are those of a sealed record.
 use Rattle.std.proofs.Common.{◌≡◌, ℕ, ◌+◌, ◌-◌, ◌*◌, ◌/◌, ◌%◌, ◌<◌, ◌≤◌, ◌^◌, List, [], ◌∷◌, ◌++◌, length, get_or, slice_range, take, drop, replicate, refl, sym, ap, ◌∙◌, arith}
 use Rattle.std.proofs.lemmas.List.{append_assoc, append_cancel_right, drop-drop, drop-append-le, drop-take, get_or-drop, length-append, length-drop, length-take-le, length-replicate, same_lists, take-append-drop, take-append-le, take-take, take_at, get_or-replicate}
 use Rattle.byteorder.specs.Endian.{big_bytes, little_bytes, little_number}
@@ -9,7 +9,7 @@ use Rattle.xr_record.specs.declared.head.Head.{Head}
 use Rattle.xr_base.specs.declared.layout.TheConstants.{MAX_BODY_BYTES, RECORD_FORMAT, RECORD_VERSION, RECORD_MAGIC}
 use Rattle.xr_base.specs.Fields.{AreBytes, be32_at}
 use Rattle.xr_record.specs.Record.{IsSealed, fields_after, fields_before, moved, restored, sectors_of, sectors_with, stamped, zeros, record_sectors, padded_body}
-use Rattle.xr_record.specs.Unsealing.{AreZero, HasChecksum, HasLength, HasMagic, HasStamps, HasVersion, IsInPlace, IsPadded, Opens, body_in, head_in, opened}
+use Rattle.xr_record.specs.Unsealing.{AreZero, HasChecksum, HasLength, HasMagic, HasStamps, HasVersion, IsInPlace, IsPadded, Opens, body_in, head_in, opened_record}
 use Rattle.xr_record.specs.OverlayLaws.{take-add}
 use Rattle.xr_record.specs.StampLaws.{big_bytes-number, length-restored, moved-restored, restored-append, stamped-append, stamped-restored}
 
@@ -212,7 +212,7 @@ body_padded len n bytes e most room z =
 pub word_fits : (at : ℕ) (bytes : List ℕ) → AreBytes bytes → be32_at bytes at < 2 ^ 32
 word_fits at bytes small = big_from-lt 0 4 (drop at bytes) (λ k. rw (get_or-drop at bytes k 0) (small (at + k)))
 
--- bytes that keep all rules are a record_sectors record
+-- bytes that keep all rules are those of a sealed record
 pub sealed_by_rules : (sector : ℕ) (bytes : List ℕ) → AreBytes bytes → HasMagic bytes → HasVersion bytes → HasLength bytes → HasChecksum bytes
     → IsInPlace sector bytes → IsSealed bytes (head_in bytes) (take (be32_at bytes 12) (body_in (be32_at bytes 12) bytes))
 sealed_by_rules sector bytes small m v l c p =
@@ -264,7 +264,7 @@ sealed_by_rules sector bytes small m v l c p =
 
 -- and putting its body back gives the body
 pub opens_by_rules : (sector : ℕ) (bytes new : List ℕ) → AreBytes bytes → HasMagic bytes → HasVersion bytes → HasLength bytes → HasChecksum bytes
-    → IsInPlace sector bytes → new ≡ opened (be32_at bytes 12) bytes → Opens sector bytes new (head_in bytes)
+    → IsInPlace sector bytes → new ≡ opened_record (be32_at bytes 12) bytes → Opens sector bytes new (head_in bytes)
 opens_by_rules sector bytes new small m v l c p e =
     let len = be32_at bytes 12 in
     let n = sectors_of len in

@@ -1,10 +1,10 @@
 -- The rules that a record is tested by, in their order, and what is made of one that keeps them.
 use Rattle.std.specs.Prelude.{◌≡◌, ℕ, ◌+◌, ◌*◌, ◌<◌, ◌≤◌, List, ◌++◌, All, length, slice_range, take, drop}
-use Rattle.byteorder.specs.Endian.{big_bytes, big_number, little_number}
+use Rattle.byteorder.specs.Endian.{big_bytes, little_number}
 use Rattle.xr_base.specs.Checksum.{checksum_of, without_four}
 use Rattle.xr_base.specs.Fields.{be32_at}
 use Rattle.xr_base.specs.Image.{part}
-use Rattle.xr_base.specs.declared.geometry.TheConstants.{LOG_SECTORS, SECTOR_BYTES, CYCLES}
+use Rattle.xr_base.specs.declared.geometry.TheConstants.{LOG_SECTORS, SECTOR_BYTES, CYCLES, UUID_BYTES}
 use Rattle.xr_record.specs.declared.head.Head.{Head}
 use Rattle.xr_record.specs.declared.layout.TheConstants.{CYCLE_PLACE, FORMAT_PLACE, LEN_PLACE, LSN_PLACE, OPS_PLACE, PREV_PLACE, SIZE_PLACE, TAIL_PLACE, UUID_PLACE, VERSION_PLACE, WORDS_BYTES, WORDS_PLACE, ZEROS_PLACE}
 use Rattle.xr_base.specs.declared.layout.TheConstants.{RECORD_CRC, MAX_BODY_BYTES, RECORD_FORMAT, RECORD_VERSION, RECORD_MAGIC}
@@ -21,7 +21,7 @@ head_in bytes = record {
   prev = be32_at bytes PREV_PLACE;
   ops = be32_at bytes OPS_PLACE;
   len = be32_at bytes LEN_PLACE;
-  uuid = part UUID_PLACE 16 bytes;
+  uuid = part UUID_PLACE UUID_BYTES bytes;
 }
 
 -- the sectors of the body that the header names
@@ -60,8 +60,8 @@ abbrev pub body_in : ℕ → List ℕ → List ℕ
 body_in len bytes = restored (sectors_of len) (part WORDS_PLACE WORDS_BYTES bytes) (drop SECTOR_BYTES bytes)
 
 -- the record with the body put back
-abbrev pub opened : ℕ → List ℕ → List ℕ
-opened len bytes = take SECTOR_BYTES bytes ++ body_in len bytes
+abbrev pub opened_record : ℕ → List ℕ → List ℕ
+opened_record len bytes = take SECTOR_BYTES bytes ++ body_in len bytes
 
 -- zeros follow the body up to the end of its last sector
 abbrev pub IsPadded : ℕ → List ℕ → Type 0
@@ -82,13 +82,13 @@ HasZeros sectors bytes =
     AreZero (slice_range bytes (WORDS_PLACE + 4 * sectors) FORMAT_PLACE) × AreZero (slice_range bytes ZEROS_PLACE SECTOR_BYTES)
 
 -- and has its stamps and zeros, but for what follows the body
-pub record IsPlaced (sector : ℕ) (bytes : List ℕ) : Type 0 where
+pub record IsPlacedRecord (sector : ℕ) (bytes : List ℕ) : Type 0 where
   pub here : IsHere sector bytes
   pub stamps : HasStamps (be32_at bytes LSN_PLACE) (sectors_in bytes) (drop SECTOR_BYTES bytes)
   pub zeros : HasZeros (sectors_in bytes) bytes
 
 pub record IsInPlace (sector : ℕ) (bytes : List ℕ) : Type 0 where
-  pub placed : IsPlaced sector bytes
+  pub placed : IsPlacedRecord sector bytes
   pub padding : IsPadded (be32_at bytes LEN_PLACE) bytes
 
 -- this is the first rule that is broken

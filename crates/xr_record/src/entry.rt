@@ -1,5 +1,5 @@
 //! What a stream of operations holds.
-ghost use Rattle.std.specs.Prelude.{◌≡◌, ◌<◌, ◌↔◌, [], IsTrue, length, map, slice_index_or};
+ghost use Rattle.std.specs.Prelude.{◌≡◌, ◌<◌, ◌↔◌, [], IsTrue, Some, length, map, slice_get};
 
 use std::marker::Model;
 
@@ -36,10 +36,10 @@ impl Regions {
         self.regions.is_empty()
     }
 
-    /// The bytes of a region.
+    /// The bytes of the region with this number, counted from 0.
     pub fn at(&self, i: usize) -> &[u8]
         requires { i < length self.now }
-        ensures { result.now ≡ slice_index_or self.now i result.now }
+        ensures { slice_get self.now i ≡ Some result.now }
     {
         &self.regions[i]
     }

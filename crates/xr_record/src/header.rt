@@ -1,6 +1,8 @@
 //! The fields of a record's header, each at its place.
 ghost use Rattle.std.specs.Prelude.{◌≡◌, ◌+◌, ◌≤◌, ◌++◌, length, take, drop};
 ghost use Rattle.byteorder.specs.Endian.{big_bytes};
+ghost use Rattle.xr_base.specs.declared.geometry.TheConstants.{SECTOR_BYTES};
+ghost use Rattle.xr_record.specs.declared.layout.TheConstants.{WORDS_BYTES};
 ghost use Rattle.xr_record.specs.Record.{fields_before, fields_after};
 
 use crate::bytes::{put, put_word};
@@ -13,9 +15,9 @@ use xr_base::layout::{MAX_BODY_BYTES, RECORD_CRC, RECORD_FORMAT, RECORD_MAGIC, R
 
 /// Writes the fields before the words. The one of the checksum is zero.
 fn put_fields_before(header: &mut [u8], head: &Head)
-    requires { 44 ≤ length header.old }
-    ensures front { take 44 header.new ≡ fields_before head.now 0 }
-    ensures rest { drop 44 header.new ≡ drop 44 header.old }
+    requires { WORDS_PLACE ≤ length header.old }
+    ensures front { take WORDS_PLACE header.new ≡ fields_before head.now 0 }
+    ensures rest { drop WORDS_PLACE header.new ≡ drop WORDS_PLACE header.old }
 {
     put_word(header, 0, RECORD_MAGIC);
     put_word(header, CYCLE_PLACE, head.lsn.cycle);
@@ -32,8 +34,8 @@ fn put_fields_before(header: &mut [u8], head: &Head)
 
 /// Writes the fields after the words.
 fn put_fields_after(header: &mut [u8], head: &Head)
-    requires { length header.old ≡ 512 }
-    ensures { header.new ≡ take 300 header.old ++ fields_after head.now }
+    requires { length header.old ≡ SECTOR_BYTES }
+    ensures { header.new ≡ take FORMAT_PLACE header.old ++ fields_after head.now }
 {
     put_word(header, FORMAT_PLACE, RECORD_FORMAT);
     put(header, UUID_PLACE, head.uuid.as_bytes());
@@ -43,8 +45,8 @@ fn put_fields_after(header: &mut [u8], head: &Head)
 
 /// Writes a header with these words. Its checksum is zero.
 pub fn put_header(header: &mut [u8], head: &Head, words: &[u8])
-    requires room { length header.old ≡ 512 }
-    requires words { length words.now ≡ 256 }
+    requires room { length header.old ≡ SECTOR_BYTES }
+    requires words { length words.now ≡ WORDS_BYTES }
     ensures { header.new ≡ fields_before head.now 0 ++ words.now ++ fields_after head.now }
 {
     put_fields_before(header, head);

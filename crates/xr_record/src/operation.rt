@@ -4,6 +4,7 @@ ghost use Rattle.xr_record.specs.Operations.{fields};
 ghost use Rattle.xr_base.specs.Fields.{AreBytes};
 ghost use Rattle.xr_record.specs.declared.layout.TheConstants.{OPERATION_BYTES};
 
+use crate::layout::{CLIENT_PLACE, FLAGS_PLACE, OPERATION_LEN_PLACE, OPERATION_ZEROS_PLACE};
 use byteorder::{BigEndian, ByteOrder};
 
 /// What an operation is.
@@ -42,9 +43,9 @@ pub fn fields_in(bytes: &[u8]) -> Fields
 {
     Fields {
         tid: BigEndian::read_u32(bytes),
-        len: BigEndian::read_u32(&bytes[4..]),
-        client: bytes[8],
-        flags: bytes[9],
-        zeros: BigEndian::read_u16(&bytes[10..]),
+        len: BigEndian::read_u32(&bytes[OPERATION_LEN_PLACE..]),
+        client: bytes[CLIENT_PLACE],
+        flags: bytes[FLAGS_PLACE],
+        zeros: BigEndian::read_u16(&bytes[OPERATION_ZEROS_PLACE..]),
     }
 }

@@ -1,9 +1,12 @@
 //! Packing operations into the body of a record.
-ghost use Rattle.std.specs.Prelude.{◌≡◌, ◌⊎◌, ◌-◌, ◌<◌, ◌↔◌, ◌++◌, ◌∷◌, [], IsTrue, IfOk, MatchOption, length};
+ghost use Rattle.std.specs.Prelude.{◌≡◌, ◌⊎◌, ◌-◌, ◌*◌, ◌<◌, ◌≤◌, ◌↔◌, ◌++◌, ◌∷◌, [], IsTrue, IfOk, MatchOption, length};
 ghost use Rattle.byteorder.specs.Endian.{big_bytes};
 ghost use Rattle.xr_record.specs.Packing.{HasNoRoom, Pushes, PushesAreOperations, part_flags, room_in};
 
-use crate::layout::{CONTINUE, LAST_FLAGS, MIDDLE_FLAGS, OPERATION_BYTES};
+use crate::layout::{
+    CLIENT_PLACE, CONTINUE, FLAGS_PLACE, LAST_FLAGS, MIDDLE_FLAGS, OPERATION_BYTES,
+    OPERATION_LEN_PLACE,
+};
 use byteorder::{BigEndian, ByteOrder};
 use std::alloc::Global;
 use std::marker::Model;
@@ -20,7 +23,8 @@ pub struct Packer {
 impl Model for Packer {
     ghost use Rattle.std.specs.Prelude.{◌*◌, ◌≤◌, vec_capacity, vec_len};
     ghost use Rattle.xr_base.specs.declared.layout.TheConstants.{MAX_BODY_BYTES};
-    ghost use Rattle.xr_record.specs.Packing.{IsPacking, Packed};
+    ghost use Rattle.xr_record.specs.PackerFields.{IsPacking};
+    ghost use Rattle.xr_record.specs.Packing.{Packed};
 
     ghost Value = { Packed };
 
@@ -54,9 +58,9 @@ fn header_bytes(tid: u32, len: u32, client: u8, flags: u8) -> [u8; OPERATION_BYT
 {
     let mut header = [0; OPERATION_BYTES];
     BigEndian::write_u32(&mut header, tid);
-    BigEndian::write_u32(&mut header[4..], len);
-    header[8] = client;
-    header[9] = flags;
+    BigEndian::write_u32(&mut header[OPERATION_LEN_PLACE..], len);
+    header[CLIENT_PLACE] = client;
+    header[FLAGS_PLACE] = flags;
     header
 }
 
@@ -102,14 +106,16 @@ impl Packer {
 
     /// The body so far.
     pub fn body(&self) -> &[u8]
-        ensures { result.now ≡ self.now.body }
+        ensures body { result.now ≡ self.now.body }
+        ensures most { length result.now ≤ MAX_BODY_BYTES }
     {
         &self.body
     }
 
-    /// The number of operations in it.
+    /// The number of operations in it, each of which has a header.
     pub fn ops(&self) -> u32
-        ensures { result ≡ self.now.ops }
+        ensures ops { result ≡ self.now.ops }
+        ensures each { OPERATION_BYTES * result ≤ length self.now.body }
     {
         self.ops
     }

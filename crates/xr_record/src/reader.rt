@@ -2,13 +2,14 @@
 ghost use Rattle.std.specs.Prelude.{◌≡◌, ◌<◌, ◌≤◌, ◌++◌, [], ℕ, List, IfOk, IfErr, OnOk, Some, None, Err, length, option_to_list, take};
 ghost use Rattle.xr_record.specs.declared.entry.Entry.{Entry};
 ghost use Rattle.xr_record.specs.declared.fault.FeedFault.{FeedFault};
-ghost use Rattle.xr_record.specs.Kept.{IsKept, held_in};
-ghost use Rattle.xr_record.specs.Reading.{FailsOn, IsFaultOf, Reads, TakesOn};
+ghost use Rattle.xr_record.specs.ReaderFields.{IsSettled, reader_state};
+ghost use Rattle.xr_record.specs.Reading.{IsFaultOf, Reads};
+ghost use Rattle.xr_record.specs.ReaderSteps.{FailsOn, TakesOn};
 
 use crate::entry::Entry;
 use crate::fault::FeedFault;
-use crate::kept::{Kept, grow, settle};
 use crate::layout::OPERATION_BYTES;
+use crate::reader_fields::{ReaderFields, grow, settle};
 use crate::rules::Stage;
 use std::alloc::Global;
 use std::marker::Model;
@@ -24,16 +25,20 @@ struct Advance {
 }
 
 /// Takes the bytes of at most one operation.
-fn take_operation(kept: &mut Kept, alloc: Global, piece: &[u8]) -> Result<Advance, FeedFault>
-    requires kept { IsKept kept.old }
+fn take_operation(
+    reader: &mut ReaderFields,
+    alloc: Global,
+    piece: &[u8],
+) -> Result<Advance, FeedFault>
+    requires settled { IsSettled reader.old }
     requires some { 0 < length piece.now }
-    ensures kept { IfOk result (λ _. IsKept kept.new) }
+    ensures settled { IfOk result (λ _. IsSettled reader.new) }
     ensures count { IfOk result (λ a. (0 < a.taken) × (a.taken ≤ length piece.now)) }
-    ensures reads { IfOk result (λ a. TakesOn (held_in kept.old) (held_in kept.new) (take a.taken piece.now) (option_to_list a.entry)) }
-    ensures fault { IfErr result (FailsOn (held_in kept.old) piece.now) }
+    ensures reads { IfOk result (λ a. TakesOn (reader_state reader.old) (reader_state reader.new) (take a.taken piece.now) (option_to_list a.entry)) }
+    ensures fault { IfErr result (FailsOn (reader_state reader.old) piece.now) }
 {
-    let taken = grow(kept, piece)?;
-    let entry = settle(kept, alloc)?;
+    let taken = grow(reader, piece)?;
+    let entry = settle(reader, alloc)?;
     Ok(Advance { taken, entry })
 }
 
@@ -49,16 +54,16 @@ fn push_entry(entries: &mut Vec<Entry>, entry: Option<Entry>) -> Result<(), NoMe
     }
 }
 
-fn read(kept: &mut Kept, alloc: Global, piece: &[u8]) -> Result<Vec<Entry>, FeedFault>
-    requires { IsKept kept.old }
-    ensures kept { IfOk result (λ _. IsKept kept.new) }
-    ensures reads { IfOk result (λ entries. TakesOn (held_in kept.old) (held_in kept.new) piece.now entries.items) }
-    ensures fault { IfErr result (FailsOn (held_in kept.old) piece.now) }
+fn read(reader: &mut ReaderFields, alloc: Global, piece: &[u8]) -> Result<Vec<Entry>, FeedFault>
+    requires { IsSettled reader.old }
+    ensures settled { IfOk result (λ _. IsSettled reader.new) }
+    ensures reads { IfOk result (λ entries. TakesOn (reader_state reader.old) (reader_state reader.new) piece.now entries.items) }
+    ensures fault { IfErr result (FailsOn (reader_state reader.old) piece.now) }
 {
     let mut entries = Vec::new(alloc);
     let mut done = 0;
     while done < piece.len() {
-        let advance = take_operation(kept, alloc, &piece[done..])?;
+        let advance = take_operation(reader, alloc, &piece[done..])?;
         push_entry(&mut entries, advance.entry)?;
         done += advance.taken;
     }
@@ -68,7 +73,7 @@ fn read(kept: &mut Kept, alloc: Global, piece: &[u8]) -> Result<Vec<Entry>, Feed
 /// A reader of a stream of operations. It keeps no more than the bytes since the last whole transaction.
 #[derive(Debug, Drop)]
 pub struct Reader {
-    kept: Kept,
+    fields: ReaderFields,
     ended: Option<FeedFault>,
 }
 
@@ -78,11 +83,11 @@ impl Model for Reader {
 
     ghost Value = { Reading };
 
-    ghost use Rattle.xr_record.specs.Kept.{IsKept, held_in};
+    ghost use Rattle.xr_record.specs.ReaderFields.{IsSettled, reader_state};
 
-    ghost view = { λ r. record { held = held_in r.kept; ended = r.ended } };
+    ghost view = { λ r. record { held = reader_state r.fields; ended = r.ended } };
 
-    ghost invariant = { λ r. r.ended ≡ None → IsKept r.kept };
+    ghost invariant = { λ r. r.ended ≡ None → IsSettled r.fields };
 }
 
 impl Reader {
@@ -91,7 +96,7 @@ impl Reader {
         ensures { IfOk result (Reads [] []) }
     {
         Ok(Reader {
-            kept: Kept {
+            fields: ReaderFields {
                 stage: Stage::Between,
                 regions: Vec::new(alloc),
                 header: Vec::with_capacity(alloc, OPERATION_BYTES)?,
@@ -115,7 +120,7 @@ impl Reader {
         if let Some(fault) = self.ended {
             return Err(fault);
         }
-        match read(&mut self.kept, alloc, piece) {
+        match read(&mut self.fields, alloc, piece) {
             Ok(entries) => Ok(entries),
             Err(fault) => {
                 self.ended = Some(fault);

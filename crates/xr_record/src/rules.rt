@@ -1,6 +1,6 @@
 //! The rules that each operation is tested by.
 ghost use Rattle.std.specs.Prelude.{◌≡◌, ◌<◌, ◌≤◌, ◌∷◌, ℕ, List, IsNone, length};
-ghost use Rattle.xr_record.specs.Kept.{front_of, region_items, state_at, HasCountBytes, IsHeaderSort};
+ghost use Rattle.xr_record.specs.ReaderFields.{front_of, region_items, state_at, HasCountBytes, IsHeaderSort};
 ghost use Rattle.xr_record.specs.Operations.{sort_of};
 ghost use Rattle.xr_base.specs.Fields.{AreBytes};
 ghost use Rattle.xr_record.specs.Rules.{body_fault, is_client, is_header_body, is_len, is_region_len, is_tid, may_come};
@@ -8,7 +8,8 @@ ghost use Rattle.xr_record.specs.Stream.{are_items, item_len, items_from};
 
 use crate::layout::{
     COMMIT, CONTINUE, LAST_FLAGS, LOG_CLIENT, MIDDLE_FLAGS, MOST_REGION_BYTES, START,
-    TRANSACTION_CLIENT, TRANSACTION_MAGIC, TRANSACTION_TYPE, UNMOUNT, UNMOUNT_BODY,
+    TRANSACTION_CLIENT, TRANSACTION_HEADER_BYTES, TRANSACTION_MAGIC, TRANSACTION_TID_PLACE,
+    TRANSACTION_TYPE, TRANSACTION_TYPE_PLACE, UNMOUNT, UNMOUNT_BODY, UNMOUNT_BODY_BYTES,
 };
 use crate::operation::{Fields, Sort};
 use byteorder::{ByteOrder, LittleEndian};
@@ -108,10 +109,10 @@ fn is_len(stage: Stage, sort: Sort, len: u32) -> bool
         → result ≡ is_len (state_at stage regions body) sort len }
 {
     match (stage, sort) {
-        (Stage::Begun { .. }, _) => len == 16,
+        (Stage::Begun { .. }, _) => len == TRANSACTION_HEADER_BYTES as u32,
         (Stage::Cut { front, .. }, _) => is_region_len(front, len),
         (_, Sort::Start | Sort::Commit) => len == 0,
-        (_, Sort::Unmount) => len == 8,
+        (_, Sort::Unmount) => len == UNMOUNT_BODY_BYTES as u32,
         _ => is_region_len(0, len),
     }
 }
@@ -146,10 +147,10 @@ pub fn sort_in(stage: Stage, f: &Fields) -> Result<Sort, OpKind>
 fn is_header_body(tid: u32, body: &[u8]) -> bool
     ensures { result ≡ is_header_body tid body.now }
 {
-    body.len() == 16
+    body.len() == TRANSACTION_HEADER_BYTES
         && LittleEndian::read_u32(body) == TRANSACTION_MAGIC
-        && LittleEndian::read_u32(&body[4..]) == TRANSACTION_TYPE
-        && LittleEndian::read_u32(&body[8..]) == tid
+        && LittleEndian::read_u32(&body[TRANSACTION_TYPE_PLACE..]) == TRANSACTION_TYPE
+        && LittleEndian::read_u32(&body[TRANSACTION_TID_PLACE..]) == tid
 }
 
 /// How many regions the item takes whose first region this is.

@@ -5,7 +5,8 @@ ghost use Rattle.xr_base.specs.declared.geometry.TheConstants.{SECTOR_BYTES};
 ghost use Rattle.xr_record.specs.declared.head.Head.{Head};
 ghost use Rattle.xr_base.specs.Fields.{AreBytes, be32_at};
 ghost use Rattle.xr_record.specs.Record.{IsSealed, sectors_of};
-ghost use Rattle.xr_record.specs.Unsealing.{HasChecksum, HasLength, HasMagic, HasStamps, HasVersion, HasZeros, IsHere, IsInPlace, IsPadded, IsPlaced, IsRefusal, Opens, checksum_in, head_in, opened};
+ghost use Rattle.xr_record.specs.Unsealing.{HasChecksum, HasLength, HasMagic, HasStamps, HasVersion, HasZeros, IsHere, IsInPlace, IsPadded};
+ghost use Rattle.xr_record.specs.Unsealing.{IsPlacedRecord, IsRefusal, Opens, checksum_in, head_in, opened_record};
 
 use crate::bytes::is_zero;
 use crate::head::{Head, Lsn};
@@ -18,7 +19,7 @@ use crate::words::{restore, stamp};
 use byteorder::{BigEndian, ByteOrder, LittleEndian};
 use thiserror::Error;
 use uuid::Uuid;
-use xr_base::geometry::{CYCLES, LOG_SECTORS, SECTOR_BYTES};
+use xr_base::geometry::{CYCLES, LOG_SECTORS, SECTOR_BYTES, UUID_BYTES};
 use xr_base::layout::{MAX_BODY_BYTES, RECORD_CRC, RECORD_FORMAT, RECORD_MAGIC, RECORD_VERSION};
 use xr_base::{be32_at, crc32c_without};
 
@@ -55,11 +56,11 @@ fn lsn_in(bytes: &[u8], place: usize) -> Lsn
 }
 
 fn uuid_in(bytes: &[u8], place: usize) -> Uuid
-    requires { place + 16 ≤ length bytes.now }
-    ensures { result ≡ take 16 (drop place bytes.now) }
+    requires { place + UUID_BYTES ≤ length bytes.now }
+    ensures { result ≡ take UUID_BYTES (drop place bytes.now) }
 {
-    let mut uuid = [0; 16];
-    uuid.copy_from_slice(&bytes[place..place + 16]);
+    let mut uuid = [0; UUID_BYTES];
+    uuid.copy_from_slice(&bytes[place..place + UUID_BYTES]);
     Uuid::from_bytes(uuid)
 }
 
@@ -156,7 +157,7 @@ fn has_zeros(bytes: &[u8], sectors: usize) -> bool
 fn is_placed(bytes: &[u8], sector: u32) -> bool
     requires room { SECTOR_BYTES ≤ length bytes.now }
     requires length { HasLength bytes.now }
-    ensures { IsTrue result ↔ IsPlaced sector bytes.now }
+    ensures { IsTrue result ↔ IsPlacedRecord sector bytes.now }
 {
     let sectors = sectors_of(be32_at(bytes, LEN_PLACE));
     let cycle = be32_at(bytes, LSN_PLACE);
@@ -176,7 +177,7 @@ fn open(bytes: &mut [u8], len: u32, cycle: u32) -> bool
     requires len { len ≤ MAX_BODY_BYTES }
     requires stamps { HasStamps cycle (sectors_of len) (drop SECTOR_BYTES bytes.old) }
     ensures padded { IsTrue result ↔ IsPadded len bytes.old }
-    ensures opened { IsTrue result → bytes.new ≡ opened len bytes.old }
+    ensures opened { IsTrue result → bytes.new ≡ opened_record len bytes.old }
     ensures unchanged { (IsTrue result → ⊥) → bytes.new ≡ bytes.old }
 {
     let sectors = sectors_of(len);

@@ -169,12 +169,14 @@ fn reads_and_writes_a_file(rt: HostRuntime) -> Result<(), Fail> {
     assert_eq!(rt; (missing.moment(), missing.faults()), (1, 1));
 
     let mut disk = file_disk(&rt, path.as_str(), true)?;
-    assert!(rt; disk.write(2, &[7; 1024]).is_ok() && disk.sync().is_ok());
+    assert!(rt; disk.write(2, &[7; 1024]).is_ok() && disk.write(65_537, &[5; 512]).is_ok());
+    assert!(rt; disk.sync().is_ok());
     reads(&rt, &mut disk, 3, 7);
-    // Before what was written, and past the end of the file.
+    reads(&rt, &mut disk, 65_537, 5);
+    // Before what was written, 65,536 sectors before it, and past the end of the file.
     reads(&rt, &mut disk, 1, 0);
     reads(&rt, &mut disk, 71_743, 0);
-    assert_eq!(rt; (disk.moment(), disk.faults()), (5, 0));
+    assert_eq!(rt; (disk.moment(), disk.faults()), (7, 0));
 
     // The superblock of so short a file is zeros.
     let words = ["show", path.as_str(), "log"];

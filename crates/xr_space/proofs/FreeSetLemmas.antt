@@ -6,11 +6,13 @@ use Rattle.std.proofs.lemmas.Bool.Decides.{nat_tests}
 use Rattle.std.proofs.lemmas.List.Elements.{All-contains}
 use Rattle.xr_kinds.specs.declared.free_runs.ByBlock.{ByBlock}
 use Rattle.xr_kinds.specs.declared.span.Span.{Span}
+use Rattle.xr_change.specs.SetLaws.{agree_in}
+use Rattle.xr_change.specs.Sets.{Gains, Loses, Swaps}
+use Rattle.xr_kinds.specs.FreeRunLaws.{is_block_form}
 use Rattle.xr_kinds.specs.FreeRuns.{block_form, block_span, by_block}
 use Rattle.xr_pool.specs.Overlay.{Blocks}
 use Rattle.xr_kinds.specs.Spans.{IsIn, apart, end_of, is_group_run, span}
-use Rattle.xr_space.proofs.RunRecordLemmas.{away_in}
-use Rattle.xr_space.specs.Space.{Gains, IsFreeRun, IsSpace, Loses, Swaps, block_records}
+use Rattle.xr_space.specs.Space.{IsFreeRun, IsSpace, block_records}
 use Rattle.xr_space.specs.declared.space.Space.{Space}
 
 -- runs of a group, with a block between any two
@@ -23,7 +25,7 @@ are_runs b s space = record {
   good = λ x held.
       All-contains (λ (r : ByBlock). block_form.is_valid r ≡ true) (block_records b s) (by_block x) space.blocks.records.valid held;
   away = λ x y one other. ⊎_map (λ same. ap block_span same) (λ away. away)
-      (away_in (block_records b s) space.blocks.records (by_block x) (by_block y) one other);
+      (agree_in block_form is_block_form (block_records b s) space.blocks.records (by_block x) (by_block y) one other);
 }
 
 abbrev pub Holds : (Span → Type 0) → ℕ → Type 0

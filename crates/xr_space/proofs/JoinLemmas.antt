@@ -5,7 +5,8 @@ use Rattle.xr_kinds.specs.declared.span.Span.{Span}
 use Rattle.xr_kinds.specs.SpanLaws.{group_run}
 use Rattle.xr_kinds.specs.Spans.{IsIn, apart, end_of, is_group_run, span, touch}
 use Rattle.xr_space.proofs.FreeSetLemmas.{AreRuns, Holds, back_with, in_cases, lost}
-use Rattle.xr_space.specs.Space.{IsLoose, Loses}
+use Rattle.xr_change.specs.Sets.{Loses}
+use Rattle.xr_space.specs.Space.{IsLoose}
 
 -- two runs of a group have no block in common and don't touch, so there is a block between them
 between : (x run : Span) → is_group_run x ≡ true → is_group_run run ≡ true → ((n : ℕ) → IsIn run n → ¬ (IsIn x n)) → (touch x run ≡ true → ⊥) → apart x run ≡ true

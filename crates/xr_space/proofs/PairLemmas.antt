@@ -3,7 +3,8 @@ use Rattle.std.proofs.Common.{◌≡◌, ◌≢◌, ◌⊎◌, ◌↔◌}
 use Rattle.std.proofs.Math.Logic.{⊎_map}
 use Rattle.xr_kinds.specs.declared.span.Span.{Span}
 use Rattle.xr_pool.specs.Overlay.{Blocks}
-use Rattle.xr_space.specs.Space.{ArePaired, Gains, IsFreeRun, Loses, Swaps, IsRunBySize}
+use Rattle.xr_change.specs.Sets.{Gains, Loses, Swaps}
+use Rattle.xr_space.specs.Space.{ArePaired, IsFreeRun, IsRunBySize}
 use Rattle.xr_space.specs.declared.space.Space.{Space}
 
 -- one less and one more is one in the place of another

@@ -1,11 +1,9 @@
 -- The rules on records of free runs, of either order, after a run is added or put in the place of another.
-use Rattle.std.proofs.Common.{◌≡◌, ◌≢◌, ◌⊎◌, ℕ, ◌<◌, ◌≤◌, true, false, List, [], ◌∷◌, length, map, get_or, eqb, refl, sym, ap, ◌∙◌, ⊎_elim, arith}
-use Rattle.std.proofs.Math.Logic.{⊎_map}
+use Rattle.std.proofs.Common.{◌≡◌, ◌≢◌, ℕ, ◌<◌, ◌≤◌, true, false, List, [], ◌∷◌, length, map, get_or, eqb, refl, sym, ap, ◌∙◌, ⊎_elim, arith}
 use Rattle.std.proofs.lemmas.Bool.{cases_Bool, eqb-true, ne_eqb}
 use Rattle.std.proofs.lemmas.Bool.Decides.{nat_tests}
 use Rattle.std.proofs.lemmas.Cmp.{ranked}
 use Rattle.std.proofs.lemmas.List.{get_or-map, length-map}
-use Rattle.std.proofs.lemmas.List.Elements.{All-contains}
 use Rattle.std.proofs.lemmas.Map.Keys.{IsDistinct-from_apart}
 use Rattle.std.proofs.lemmas.Map.Steps.{length-le_from_distinct_below}
 use Rattle.std.proofs.lemmas.Map.Views.{Contains-from_any}
@@ -17,11 +15,11 @@ use Rattle.xr_kinds.specs.declared.span.Span.{Span}
 use Rattle.xr_kinds.specs.Form.{Form, IsForm}
 use Rattle.xr_kinds.specs.FreeRunLaws.{is_block_form, is_size_form}
 use Rattle.xr_kinds.specs.FreeRuns.{block_form, block_span, size_form, size_order, size_span}
-use Rattle.xr_kinds.specs.SpanLaws.{apart_both, group_run}
+use Rattle.xr_kinds.specs.SpanLaws.{group_run}
 use Rattle.xr_kinds.specs.Spans.{apart, is_group_run}
 use Rattle.xr_block.specs.Tree.{AreRecords}
 use Rattle.xr_change.specs.Sets.{inserted, replaced}
-use Rattle.xr_tree.proofs.SetMemberLemmas.{above, all_in, inserted_only, inserted_pairs, is_equal, pair_in, replaced_only, replaced_pairs}
+use Rattle.xr_change.specs.SetLaws.{agree_in, inserted_rules, is_equal, replaced_rules}
 
 abbrev first_block : Span → ℕ
 first_block s = s.start
@@ -97,28 +95,19 @@ module _ {X : Type 0} (form : Form X) (span_of : X → Span) (runs : IsRunForm f
       omega (arith, good.1, good.2, here, at.2)) in
       omega (arith, few, long)
 
-  as_records : (xs : List X) → All (λ (x : X). form.is_valid x ≡ true) xs → AllPairs (λ (x y : X). form.order x y ≡ Less) xs
-      → AllPairs (λ (x y : X). form.agree x y ≡ true) xs → AreRecords form xs
-  as_records xs valid ascend agree = record { valid = valid; ascend = ascend; agree = agree; few = omega (arith, runs.many, few_runs xs valid agree) }
-
   untied : (x y : X) → apart (span_of x) (span_of y) ≡ true → is_eq (form.order x y) ≡ false
   untied x y away =
       grind (arith, cases_Bool (is_eq (form.order x y)), is_equal (form.order x y), runs.tied x y, different_starts (span_of x) (span_of y) away)
 
-  pub inserted_records : (r : X) (xs : List X) → AreRecords form xs → is_group_run (span_of r) ≡ true
+  -- a run that stands apart from the others may come in
+  pub apart_rules : (r : X) (xs : List X) → AreRecords form xs → is_group_run (span_of r) ≡ true
       → ((x : X) → Contains xs x → apart (span_of x) (span_of r) ≡ true) → AreRecords form (inserted form.order r xs)
-  inserted_records r xs records good fits =
-      let order = form.order in
-      let total = runs.laws.total in
-      let valid = All-contains (λ (x : X). form.is_valid x ≡ true) xs in
-      as_records (inserted order r xs)
-      (all_in (λ (x : X). form.is_valid x ≡ true) (inserted order r xs) (λ x within. ⊎_elim
-      (λ (new : x ≡ r). ap form.is_valid new ∙ runs.valid r ∙ good) (λ (old : Contains xs x). valid x records.valid old)
-      (inserted_only order total r xs x within)))
-      (inserted_pairs order total r (λ (x y : X). order x y ≡ Less) xs records.ascend records.ascend (λ x within less. less)
-      (λ x within low. above order total x r low (untied x r (fits x within))))
-      (inserted_pairs order total r (λ (x y : X). form.agree x y ≡ true) xs records.agree records.ascend
-      (λ x within less. runs.agrees x r ∙ fits x within) (λ x within low. runs.laws.agrees_both r x ∙ runs.agrees x r ∙ fits x within))
+  apart_rules r xs records good fits = inserted_rules form runs.laws xs r records (record {
+    valid = runs.valid r ∙ good;
+    other = λ x within. untied x r (fits x within);
+    agree = λ x within. runs.agrees x r ∙ fits x within;
+    few = omega (arith, runs.many, few_runs xs records.valid records.agree);
+  })
 
 -- a run that meets or touches another stands on the same side of what is apart from both
 same_side : (x old new : Span) → apart old new ≡ false → apart x old ≡ true → apart x new ≡ true → nat_cmp x.start new.start ≡ nat_cmp x.start old.start
@@ -127,45 +116,28 @@ same_side x old new near one other = grind (arith, nat_tests)
 other_side : (x old new : Span) → apart old new ≡ false → apart x old ≡ true → apart x new ≡ true → nat_cmp new.start x.start ≡ nat_cmp old.start x.start
 other_side x old new near one other = grind (arith, nat_tests)
 
--- two records are one, or apart
-pub away_in : (xs : List ByBlock) → AreRecords block_form xs → (x y : ByBlock) → Contains xs x → Contains xs y
-    → (x ≡ y) ⊎ (apart (block_span x) (block_span y) ≡ true)
-away_in xs records x y one other = ⊎_map (λ same. same) (⊎_elim
-    (λ (agree : block_form.agree x y ≡ true). agree)
-    (λ (agree : block_form.agree y x ≡ true). apart_both (block_span x) (block_span y) ∙ agree))
-    (pair_in (λ (p q : ByBlock). block_form.agree p q ≡ true) xs x y records.agree one other)
-
 not_itself : (n : ℕ) → nat_cmp n n ≢ Less
 not_itself n less = grind (arith, nat_tests)
 
+-- and may come in in its place
 module _ (old new : ByBlock) (xs : List ByBlock) (records : AreRecords block_form xs) (held : Contains xs old) (good : is_group_run (block_span new) ≡ true) (fits : (x : ByBlock) → Contains xs x → x ≢ old → apart (block_span x) (block_span new) ≡ true) (near : apart (block_span old) (block_span new) ≡ false) where
-  other_apart : (x : ByBlock) → Contains xs x → x ≢ old → apart (block_span x) (block_span old) ≡ true
-  other_apart x within other = ⊎_elim (λ same. absurd (other same)) (λ away. away) (away_in xs records x old within held)
+  away : (x : ByBlock) → Contains xs x → x ≢ old → apart (block_span x) (block_span old) ≡ true
+  away x within other = ⊎_elim (λ same. absurd (other same)) (λ agree. agree) (agree_in block_form is_block_form xs records x old within held)
 
-  below_new : (x : ByBlock) → Contains xs x → block_form.order x old ≡ Less → (block_form.order x new ≡ Less) × (block_form.agree x new ≡ true)
+  below_new : (x : ByBlock) → Contains xs x → block_form.order x old ≡ Less → block_form.order x new ≡ Less
   below_new x within less =
       let other : x ≢ old = λ same. not_itself x.start (ap (λ (r : ByBlock). nat_cmp x.start r.start) same ∙ less) in
-      let away = fits x within other in
-      (same_side (block_span x) (block_span old) (block_span new) near (other_apart x within other) away ∙ less, away)
+      same_side (block_span x) (block_span old) (block_span new) near (away x within other) (fits x within other) ∙ less
 
-  behind_new : (x : ByBlock) → Contains xs x → block_form.order old x ≡ Less → (block_form.order new x ≡ Less) × (block_form.agree new x ≡ true)
-  behind_new x within less =
+  after_new : (x : ByBlock) → Contains xs x → block_form.order old x ≡ Less → block_form.order new x ≡ Less
+  after_new x within less =
       let other : x ≢ old = λ same. not_itself x.start (ap (λ (r : ByBlock). nat_cmp r.start x.start) same ∙ less) in
-      let away = fits x within other in (
-        other_side (block_span x) (block_span old) (block_span new) near (other_apart x within other) away ∙ less,
-        apart_both (block_span new) (block_span x) ∙ away,
-      )
+      other_side (block_span x) (block_span old) (block_span new) near (away x within other) (fits x within other) ∙ less
 
-  pub replaced_records : AreRecords block_form (replaced block_form.order old new xs)
-  replaced_records =
-      let order = block_form.order in
-      let total = is_block_form.total in
-      as_records block_form block_span by_block_runs (replaced order old new xs)
-      (all_in (λ (x : ByBlock). block_form.is_valid x ≡ true) (replaced order old new xs) (λ x within. ⊎_elim
-      (λ (is : x ≡ new). ap block_form.is_valid is ∙ good)
-      (λ (kept : (x ≢ old) × Contains xs x). All-contains (λ (y : ByBlock). block_form.is_valid y ≡ true) xs x records.valid kept.1)
-      (replaced_only order total old new xs x records.ascend within)))
-      (replaced_pairs order total old new (λ (x y : ByBlock). order x y ≡ Less) xs records.ascend records.ascend held
-      (λ x within less. (below_new x within less).0) (λ x within less. (behind_new x within less).0))
-      (replaced_pairs order total old new (λ (x y : ByBlock). block_form.agree x y ≡ true) xs records.agree records.ascend held
-      (λ x within less. (below_new x within less).1) (λ x within less. (behind_new x within less).1))
+  pub near_rules : AreRecords block_form (replaced block_form.order old new xs)
+  near_rules = replaced_rules block_form is_block_form xs old new records (record {
+    held = held;
+    valid = good;
+    place = record { below = below_new; after = after_new };
+    agree = fits;
+  })

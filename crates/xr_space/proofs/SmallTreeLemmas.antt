@@ -1,6 +1,6 @@
 -- A tree of free runs has at most two levels, and a root that isn't full where it has two: so an insertion takes at most two
 -- blocks, and a change writes at most seven.
-use Rattle.std.proofs.Common.{◌≡◌, ℕ, zero, suc, ◌+◌, ◌/◌, ◌≤◌, false, List, [], ◌∷◌, ◌++◌, length, ap, ◌∙◌, arith}
+use Rattle.std.proofs.Common.{◌≡◌, ℕ, zero, suc, ◌+◌, ◌/◌, ◌≤◌, Bool, true, false, if◌then◌else◌, List, [], ◌∷◌, ◌++◌, length, ap, ◌∙◌, arith}
 use Rattle.std.proofs.lemmas.Bool.{ne_eqb}
 use Rattle.std.proofs.lemmas.List.{append-nil, length-append, length-map}
 use Rattle.std.specs.List.{concat, flat_map}
@@ -12,8 +12,11 @@ use Rattle.xr_block.specs.Tree.{IsTreeIn, site_of, tree_held, tree_records}
 use Rattle.xr_block.specs.TreeBlock.{Entry, entries_in}
 use Rattle.xr_change.specs.Paths.{blocks_wanted, child_of, full_on_path, is_full, path_index}
 use Rattle.xr_space.proofs.RunRecordLemmas.{IsRunForm, few_runs}
-use Rattle.xr_tree.proofs.GrowthLemmas.{one_at_most}
 use Rattle.xr_tree.specs.BoundLaws.{few_blocks, nodes_hold}
+
+one_at_most : (t : Bool) → (if t then 1 else 0) ≤ 1
+one_at_most true = omega arith
+one_at_most false = omega arith
 
 row_within : {X : Type 0} (held : Held X) (level : ℕ) (row : List ℕ) → length row ≤ length (concat (rows_from held level row))
 unfolding rows_from

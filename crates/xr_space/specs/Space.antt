@@ -1,6 +1,6 @@
 -- A group's free blocks, in two trees of one overlay that hold the same runs: which blocks are free, and what a change of
 -- them leaves.
-use Rattle.std.specs.Prelude.{◌≡◌, ◌≢◌, ◌↔◌, ◌⊎◌, ℕ, ◌+◌, ◌≤◌, List, ◌++◌, length, min, IfSome, Option, Some, true, false}
+use Rattle.std.specs.Prelude.{◌≡◌, ℕ, ◌+◌, ◌≤◌, List, ◌++◌, length, min, IfSome, Option, Some, true, false}
 use Rattle.std.specs.Ordering.{is_lt}
 use Rattle.std.specs.List.{Contains}
 use Rattle.xr_kinds.specs.declared.free_runs.ByBlock.{ByBlock}
@@ -75,16 +75,6 @@ pub record IsFrontOfLowest (b : Blocks) (s : Space) (need : ℕ) (run : Span) : 
   pub first : IsLowest b s whole
   pub start : run.start ≡ whole.start
   pub len : run.len ≡ min need whole.len
-
--- a run more, a run less, and another run in the place of one
-abbrev pub Gains : (Span → Type 0) → Span → (Span → Type 0) → Type 0
-Gains before run after = (other : Span) → after other ↔ ((other ≡ run) ⊎ before other)
-
-abbrev pub Loses : (Span → Type 0) → Span → (Span → Type 0) → Type 0
-Loses before run after = (other : Span) → after other ↔ ((other ≢ run) × before other)
-
-abbrev pub Swaps : (Span → Type 0) → Span → Span → (Span → Type 0) → Type 0
-Swaps before old new after = (other : Span) → after other ↔ ((other ≡ new) ⊎ ((other ≢ old) × before other))
 
 -- a change of the two trees, which takes at most so many blocks of the pool, and leaves at most so many changed blocks more
 pub record IsStep (before : Blocks) (s : Space) (after : Blocks) (t : Space) (most writes : ℕ) : Type 0 where

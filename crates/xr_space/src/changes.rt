@@ -3,7 +3,8 @@ ghost use Rattle.std.specs.Prelude.{◌≡◌, ◌≢◌, ◌≤◌, true, false
 ghost use Rattle.xr_kinds.specs.declared.span.Span.{Span};
 ghost use Rattle.xr_pool.specs.Overlay.{free_count};
 ghost use Rattle.xr_kinds.specs.Spans.{apart, is_group_run};
-ghost use Rattle.xr_space.specs.Space.{ArePaired, Gains, IsFreeRun, IsSpace, IsStep, Loses, Swaps, block_records, size_records, IsRunBySize};
+ghost use Rattle.xr_change.specs.Sets.{Gains, Loses, Swaps};
+ghost use Rattle.xr_space.specs.Space.{ArePaired, IsFreeRun, IsRunBySize, IsSpace, IsStep, block_records, size_records};
 
 use crate::space::Space;
 use xr_kinds::{ByBlock, BySize, Span};
@@ -19,11 +20,7 @@ impl Space {
         ensures set { Gains (IsFreeRun over.old self.old) run (IsFreeRun over.new self.new) }
         ensures sizes { size_records over.new self.new ≡ size_records over.old self.old }
     {
-        let record = ByBlock {
-            start: run.start,
-            len: run.len,
-        };
-        self.by_block.insert(over, record);
+        self.by_block.insert(over, ByBlock::from(run));
     }
 
     fn remove_by_block(&mut self, over: &mut Overlay, run: Span)
@@ -33,11 +30,7 @@ impl Space {
         ensures set { Loses (IsFreeRun over.old self.old) run (IsFreeRun over.new self.new) }
         ensures sizes { size_records over.new self.new ≡ size_records over.old self.old }
     {
-        let record = ByBlock {
-            start: run.start,
-            len: run.len,
-        };
-        self.by_block.remove(over, &record);
+        self.by_block.remove(over, &ByBlock::from(run));
     }
 
     fn replace_by_block(&mut self, over: &mut Overlay, old: Span, new: Span)
@@ -50,15 +43,8 @@ impl Space {
         ensures set { Swaps (IsFreeRun over.old self.old) old new (IsFreeRun over.new self.new) }
         ensures sizes { size_records over.new self.new ≡ size_records over.old self.old }
     {
-        let held = ByBlock {
-            start: old.start,
-            len: old.len,
-        };
-        let record = ByBlock {
-            start: new.start,
-            len: new.len,
-        };
-        self.by_block.replace(over, &held, record);
+        self.by_block
+            .replace(over, &ByBlock::from(old), ByBlock::from(new));
     }
 
     fn insert_by_size(&mut self, over: &mut Overlay, run: Span)
@@ -70,11 +56,7 @@ impl Space {
         ensures set { Gains (IsRunBySize over.old self.old) run (IsRunBySize over.new self.new) }
         ensures blocks { block_records over.new self.new ≡ block_records over.old self.old }
     {
-        let record = BySize {
-            start: run.start,
-            len: run.len,
-        };
-        self.by_size.insert(over, record);
+        self.by_size.insert(over, BySize::from(run));
     }
 
     fn remove_by_size(&mut self, over: &mut Overlay, run: Span)
@@ -84,11 +66,7 @@ impl Space {
         ensures set { Loses (IsRunBySize over.old self.old) run (IsRunBySize over.new self.new) }
         ensures blocks { block_records over.new self.new ≡ block_records over.old self.old }
     {
-        let record = BySize {
-            start: run.start,
-            len: run.len,
-        };
-        self.by_size.remove(over, &record);
+        self.by_size.remove(over, &BySize::from(run));
     }
 
     /// Adds a run that stands apart from all others.

@@ -2,9 +2,11 @@
 #![tactic(auto)]
 
 mod changes;
+mod laws;
 mod pairing;
 mod space;
 #[cfg(test)]
 mod tests;
 
+pub use laws::free_blocks_stay;
 pub use space::Space;

@@ -14,11 +14,7 @@ impl Space {
         requires { IsSpace over.now self.now }
         ensures { IsTrue result ↔ IsFreeRun over.now self.now run }
     {
-        let record = ByBlock {
-            start: run.start,
-            len: run.len,
-        };
-        match self.by_block.at_most(over, &record) {
+        match self.by_block.at_most(over, &ByBlock::from(run)) {
             Some(found) => found.start == run.start && found.len == run.len,
             None => false,
         }
@@ -28,11 +24,7 @@ impl Space {
         requires { IsSpace over.now self.now }
         ensures { IsTrue result ↔ IsRunBySize over.now self.now run }
     {
-        let record = BySize {
-            start: run.start,
-            len: run.len,
-        };
-        match self.by_size.at_most(over, &record) {
+        match self.by_size.at_most(over, &BySize::from(run)) {
             Some(found) => found.start == run.start && found.len == run.len,
             None => false,
         }
@@ -48,8 +40,7 @@ impl Space {
             start: place,
             len: 0,
         };
-        let ByBlock { start, len } = self.by_block.at_least(over, &from)?;
-        Some(Span { start, len })
+        Some(self.by_block.at_least(over, &from)?.span())
     }
 
     /// The first run by size that isn't below another.
@@ -58,12 +49,7 @@ impl Space {
         ensures none { IsNone result → (run : Span) → IsRunBySize over.now self.now run → is_lt (size_order run from) ≡ true }
         ensures next { IfSome result (λ run. IsNextSized over.now self.now from run) }
     {
-        let from = BySize {
-            start: from.start,
-            len: from.len,
-        };
-        let BySize { start, len } = self.by_size.at_least(over, &from)?;
-        Some(Span { start, len })
+        Some(self.by_size.at_least(over, &BySize::from(from))?.span())
     }
 
     /// Whether each run by block stands also in the tree by size.

@@ -24,8 +24,8 @@ impl Space {
         ensures none { IsNone result → (run : Span) → ¬ (IsFreeRun over.now self.now run) }
         ensures first { IfSome result (λ run. IsLowest over.now self.now run) }
     {
-        let ByBlock { start, len } = self.by_block.at_least(over, &ByBlock { start: 0, len: 0 })?;
-        Some(Span { start, len })
+        let first = self.by_block.at_least(over, &ByBlock { start: 0, len: 0 })?;
+        Some(first.span())
     }
 
     /// The free run that ends where a run begins.
@@ -35,8 +35,8 @@ impl Space {
         ensures some { IfSome result (λ other. IsFreeRun over.now self.now other × (end_of other ≡ run.start)) }
     {
         let start = run.start;
-        let ByBlock { start, len } = self.by_block.at_most(over, &ByBlock { start, len: 0 })?;
-        let found = Span { start, len };
+        let last = self.by_block.at_most(over, &ByBlock { start, len: 0 })?;
+        let found = last.span();
         if found.end() == u64::from(run.start) {
             Some(found)
         } else {
@@ -52,11 +52,11 @@ impl Space {
         ensures some { IfSome result (λ other. IsFreeRun over.now self.now other × (other.start ≡ end_of run)) }
     {
         let end = run.start + run.len;
-        let ByBlock { start, len } = self
+        let next = self
             .by_block
             .at_least(over, &ByBlock { start: end, len: 0 })?;
-        if start == end {
-            Some(Span { start, len })
+        if next.start == end {
+            Some(next.span())
         } else {
             None
         }

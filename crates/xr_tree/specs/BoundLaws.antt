@@ -1,20 +1,13 @@
--- How many blocks a tree can have: each block but the root is min_records full, so few records have few blocks.
-use Rattle.std.proofs.Common.{◌≡◌, ℕ, zero, suc, ◌+◌, ◌-◌, ◌*◌, ◌/◌, ◌<◌, ◌≤◌, true, Option, Some, None, List, [], ◌∷◌, ◌++◌, length, get_or, refl, arith}
-use Rattle.std.proofs.lemmas.Bool.Decides.{nat_tests}
+-- How many blocks a tree can have: each block but the root is half full, so few records have few blocks.
+use Rattle.std.proofs.Common.{◌≡◌, ℕ, zero, suc, ◌+◌, ◌-◌, ◌*◌, ◌/◌, ◌≤◌, Option, Some, None, List, [], ◌∷◌, ◌++◌, length, refl, ap, ◌∙◌, subst, arith}
+use Rattle.std.proofs.Math.Nat.{le-mul_of_pos_right}
 use Rattle.std.proofs.lemmas.List.{append-nil, length-append, length-map}
-use Rattle.std.specs.List.{All, AllPairs, concat, flat_map}
-use Rattle.std.specs.declared.cmp.Ordering.TheVariants.{Less}
-use Rattle.xr_kinds.specs.declared.mapping.Mapping.{Mapping}
-use Rattle.xr_tree.specs.Bounds.{FitsIn}
+use Rattle.std.specs.List.{concat, flat_map}
 use Rattle.xr_kinds.specs.Form.{Form, IsForm}
-use Rattle.xr_kinds.specs.Mapping.{is_mapping, mapping_form}
-use Rattle.xr_kinds.specs.MappingLaws.{is_mapping_form}
 use Rattle.xr_pool.specs.Overlay.{Blocks, block_at}
-use Rattle.xr_kinds.specs.Reverse.{reverse_form}
-use Rattle.xr_kinds.specs.ReverseLaws.{is_reverse_form}
 use Rattle.xr_block.specs.Rows.{AreLinked, AreRowsOf, Held, IsWholeLeaf, IsWholeNode, first_of, min_records, leaves_from, named_below, rows_from}
 use Rattle.xr_block.specs.Tree.{IsTreeIn, site_of, tree_blocks, tree_held, tree_records}
-use Rattle.xr_block.specs.TreeBlock.{Entry, Place, Site}
+use Rattle.xr_block.specs.TreeBlock.{Entry, Place, Site, entries_in}
 
 less_one : (n h : ℕ) → 1 ≤ h → n * h ≡ n * (h - 1) + n
 less_one n zero some = absurd (omega arith)
@@ -48,7 +41,7 @@ module _ {X : Type 0} (form : Form X) (laws : IsForm form) (site : Site) (at : �
       row_holds (IsWholeNode form site held least) at (named_below held) least (suc level) None row None
       (λ place whole. omega (arith, whole.least_items, length-map (held.entries place.number) (λ (e : Entry). e.child)))
 
-  -- each row is at most as long as the part of the row below that min_records full nodes leave of it
+  -- each row is at most as long as the part of the row below that half full nodes leave of it
   pub few_blocks : (level : ℕ) (row : List ℕ) → AreRowsOf form site at held (min_records form level) level row
       → (let leaves = leaves_from held level row in
       (length leaves * (form.leaf_max / 2) ≤ length (flat_map held.records leaves))
@@ -67,15 +60,26 @@ module _ {X : Type 0} (form : Form X) (laws : IsForm form) (site : Site) (at : �
             (length (leaves_from held level below)) (form.node_max / 2) (omega (arith, laws.node_some)) (length-append row (concat (rows_from held level below))) here rest.1,
       )
 
--- the blocks below the root of a tree, by its records
-record HasFew {X : Type 0} (form : Form X) (b : Blocks) (root level : ℕ) : Type 0 where
-  leaves : ℕ
-  below : ℕ
-  all : length (tree_blocks form b root level) ≡ below + 1
-  full : leaves * (form.leaf_max / 2) ≤ length (tree_records form b root level)
-  few : below * (form.node_max / 2 - 1) ≤ leaves * (form.node_max / 2)
+  -- a row has no more blocks than there are leaves under it
+  pub row_few : (level : ℕ) (row : List ℕ) → AreRowsOf form site at held (min_records form level) level row
+      → length row ≤ length (leaves_from held level row)
+  unfolding AreRowsOf min_records leaves_from
+  row_few zero row rows = omega arith
+  row_few (suc level) row rows =
+      let below : List ℕ = flat_map (named_below held) row in
+      let wide = nodes_hold (form.node_max / 2) level row rows.0 in
+      let more : length row ≤ length row * (form.node_max / 2) = le-mul_of_pos_right (length row) (omega (arith, laws.node_some)) in
+      omega (arith, more, wide, row_few level below rows.2)
 
-has_few : {X : Type 0} (form : Form X) (laws : IsForm form) (b : Blocks) (root level : ℕ) → IsTreeIn form b root level → HasFew form b root level
+-- the blocks below the root of a tree, by its records
+pub record HasFew {X : Type 0} (form : Form X) (b : Blocks) (root level : ℕ) : Type 0 where
+  pub leaves : ℕ
+  pub below : ℕ
+  pub all : length (tree_blocks form b root level) ≡ below + 1
+  pub full : leaves * (form.leaf_max / 2) ≤ length (tree_records form b root level)
+  pub few : below * (form.node_max / 2 - 1) ≤ leaves * (form.node_max / 2)
+
+pub has_few : {X : Type 0} (form : Form X) (laws : IsForm form) (b : Blocks) (root level : ℕ) → IsTreeIn form b root level → HasFew form b root level
 unfolding AreRowsOf leaves_from rows_from
 has_few form laws b root zero tree = record { leaves = 0; below = 0; all = refl; full = omega arith; few = omega arith }
 has_few form laws b root (suc level) tree =
@@ -90,31 +94,56 @@ has_few form laws b root (suc level) tree =
       few = omega (arith, counts.1);
     }
 
-pub reverse_fits : FitsIn reverse_form 420
-reverse_fits b root level tree =
-    let few = has_few reverse_form is_reverse_form b root level tree in
-    omega (arith, few.all, few.full, few.few, tree.records.few)
+-- the children of the root of a tree, and its leaves, where it has two levels of nodes or more
+pub record IsTall {X : Type 0} (form : Form X) (b : Blocks) (root level : ℕ) : Type 0 where
+  pub second : ℕ
+  pub leaves : ℕ
+  pub two : 2 ≤ length (entries_in form (block_at b root))
+  pub wide : length (entries_in form (block_at b root)) * (form.node_max / 2) ≤ second
+  pub more : second ≤ leaves
+  -- three or more
+  pub wider : (below : ℕ) → level ≡ suc below → second * (form.node_max / 2) ≤ leaves
+  pub full : leaves * (form.leaf_max / 2) ≤ length (tree_records form b root (suc (suc level)))
 
-offset_below : (x : Mapping) → is_mapping x ≡ true → x.off < 512
-offset_below x good = grind (arith, nat_tests)
+module _ {X : Type 0} (form : Form X) (laws : IsForm form) (b : Blocks) (root : ℕ) where
+  abbrev held : Held X
+  held = tree_held form b
 
-rises : (x y : Mapping) → mapping_form.order x y ≡ Less → x.off < y.off
-rises x y less = grind (arith, nat_tests)
+  abbrev row : List ℕ
+  row = flat_map (named_below held) (root ∷ [])
 
--- offsets that rise are few
-rising : (low : ℕ) (xs : List Mapping) → low ≤ 512 → All (λ (x : Mapping). low ≤ x.off) xs → All (λ (x : Mapping). is_mapping x ≡ true) xs
-    → AllPairs (λ (x y : Mapping). mapping_form.order x y ≡ Less) xs → low + length xs ≤ 512
-rising low [] small from valid ascend = omega arith
-rising low (x ∷ xs) small from valid ascend =
-    let below : x.off < 512 = offset_below x (valid 0 x (omega arith)) in
-    let first : low ≤ x.off = from 0 x (omega arith) in
-    let rest = rising (low + 1) xs (omega arith)
-    (λ k d within. let more = rises x (get_or xs k d) (ascend 0 (suc k) d (omega arith) (omega arith)) in omega arith)
-    (λ k d within. valid (suc k) d (omega arith)) (λ i j d before within. ascend (suc i) (suc j) d (omega arith) (omega arith)) in
-    omega (arith, rest)
+  children : length row ≡ length (entries_in form (block_at b root))
+  children = ap length (append-nil (named_below held root)) ∙ length-map (entries_in form (block_at b root)) (λ (e : Entry). e.child)
 
-pub mapping_fits : FitsIn mapping_form 5
-mapping_fits b root level tree =
-    let few = has_few mapping_form is_mapping_form b root level tree in
-    let records = rising 0 (tree_records mapping_form b root level) (omega arith) (λ k d within. omega arith) tree.records.valid tree.records.ascend in
-    omega (arith, few.all, few.full, few.few, records)
+  -- each child of a root over leaves is half full
+  pub root_few : IsTreeIn form b root 1 → length (entries_in form (block_at b root)) * (form.leaf_max / 2) ≤ length (tree_records form b root 1)
+  unfolding AreRowsOf leaves_from min_records
+  root_few tree =
+      let counts = few_blocks form laws (site_of b) (block_at b) held 0 row tree.rows.2 in
+      subst (λ (n : ℕ). n * (form.leaf_max / 2) ≤ length (tree_records form b root 1)) children counts.0
+
+  third_wide : (level : ℕ) (below : List ℕ) → AreRowsOf form (site_of b) (block_at b) held (min_records form level) level below
+      → (under : ℕ) → level ≡ suc under → length below * (form.node_max / 2) ≤ length (leaves_from held level below)
+  unfolding AreRowsOf leaves_from min_records
+  third_wide zero below rows under is = absurd (omega arith)
+  third_wide (suc level) below rows under is =
+      let wide = nodes_hold form laws (site_of b) (block_at b) held (form.node_max / 2) level below rows.0 in
+      omega (arith, wide, row_few form laws (site_of b) (block_at b) held level (flat_map (named_below held) below) rows.2)
+
+  pub is_tall : (level : ℕ) → IsTreeIn form b root (suc (suc level)) → IsTall form b root level
+  unfolding AreRowsOf leaves_from min_records
+  is_tall level tree =
+      let site = site_of b in
+      let at = block_at b in
+      let below : List ℕ = flat_map (named_below held) row in
+      let counts = few_blocks form laws site at held (suc level) row tree.rows.2 in
+      let some = nodes_hold form laws site at held 2 (suc level) (root ∷ []) tree.rows.0 in
+      record {
+        second = length below;
+        leaves = length (leaves_from held level below);
+        two = omega (arith, some, children);
+        wide = subst (λ (n : ℕ). n * (form.node_max / 2) ≤ length below) children (nodes_hold form laws site at held (form.node_max / 2) level row tree.rows.2.0);
+        more = row_few form laws site at held level below tree.rows.2.2;
+        wider = third_wide level below tree.rows.2.2;
+        full = counts.0;
+      }

@@ -1,9 +1,17 @@
--- Bounds on the blocks of trees.
+-- How large trees of one kind get, by the rules on their records.
 use Rattle.std.specs.Prelude.{ℕ, ◌≤◌, length}
+use Rattle.xr_block.specs.Trees.{IsTree, blocks_of_tree}
+use Rattle.xr_block.specs.declared.root.Root.{Root}
+use Rattle.xr_change.specs.Calls.{blocks_for}
 use Rattle.xr_kinds.specs.Form.{Form}
 use Rattle.xr_pool.specs.Overlay.{Blocks}
-use Rattle.xr_block.specs.Tree.{IsTreeIn, tree_blocks}
 
--- a tree of one kind has no more blocks than this
-abbrev pub FitsIn : {X : Type 0} → Form X → ℕ → Type 0
-FitsIn form most = (b : Blocks) (root level : ℕ) → IsTreeIn form b root level → length (tree_blocks form b root level) ≤ most
+-- a tree has at most so many blocks and so many levels below its root, and an insertion takes at most so many blocks more
+pub record IsSmallTree {X : Type 0} (form : Form X) (blocks levels taken : ℕ) (b : Blocks) (t : Root) : Type 0 where
+  pub few_blocks : length (blocks_of_tree form b t) ≤ blocks
+  pub few_levels : t.level ≤ levels
+  pub few_taken : (r : X) → blocks_for form b t r ≤ taken
+
+-- each tree of one kind is such
+abbrev pub AreSmallTrees : {X : Type 0} → Form X → ℕ → ℕ → ℕ → Type 0
+AreSmallTrees form blocks levels taken = (b : Blocks) (t : Root) → IsTree form b t → IsSmallTree form blocks levels taken b t

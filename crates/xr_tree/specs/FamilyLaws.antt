@@ -1,3 +1,4 @@
+-- Of no public contract, and for tests alone.
 -- Families of each kind of record: runs of one block each at even places, which never touch, and owners' runs at offset 0.
 use Rattle.std.specs.Prelude.{ℕ, ◌%◌, ◌==◌, ◌&&◌, Bool, not}
 use Rattle.std.proofs.Common.{arith}

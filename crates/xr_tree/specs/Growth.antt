@@ -1,3 +1,4 @@
+-- Of no public contract, and for tests alone.
 -- A tree that has only records of a family, and what it takes to put one more into it, or one in the place of another.
 use Rattle.std.specs.Prelude.{◌≡◌, ℕ, ◌≤◌, Bool, true, false, List, length}
 use Rattle.std.specs.List.{All, Contains}
@@ -6,6 +7,7 @@ use Rattle.std.specs.declared.cmp.Ordering.TheVariants.{Less}
 use Rattle.xr_kinds.specs.Form.{Form}
 use Rattle.xr_pool.specs.Overlay.{Blocks, free_count}
 use Rattle.xr_block.specs.Tree.{IsTreeIn, tree_records}
+use Rattle.xr_change.specs.SetRules.{KeepsPlace}
 
 -- any two records of a family agree, if one comes before the other
 abbrev pub IsFamily : {X : Type 0} → Form X → (X → Bool) → Type 0
@@ -24,8 +26,7 @@ pub record MayCome {X : Type 0} (form : Form X) (family : X → Bool) (records :
   pub member : family r ≡ true
   pub other : All (λ (x : X). is_eq (form.order x r) ≡ false) records
 
--- no record stands between the two places in the order
+-- a record, and another that would have its place in the order
 pub record IsBeside {X : Type 0} (form : Form X) (records : List X) (old new : X) : Type 0 where
   pub held : Contains records old
-  pub below : (x : X) → Contains records x → form.order x old ≡ Less → form.order x new ≡ Less
-  pub after : (x : X) → Contains records x → form.order old x ≡ Less → form.order new x ≡ Less
+  pub place : KeepsPlace form.order records old new

@@ -1,5 +1,7 @@
 pub mod BoundLaws
 pub mod Bounds
-pub mod Calls
 pub mod FamilyLaws
 pub mod Growth
+pub mod Room
+pub mod RoomLaws
+pub mod SmallTreeLaws

@@ -211,20 +211,21 @@ fn verified<R: Kept + Reach>(
     Tree::<R>::verify(over, root, level, &mut seen)
 }
 
-/// A tree answers lookups for a record of it that comes after another.
+/// A tree has so many records, and answers lookups for one of them that comes after another.
 fn finds<R: Kept + Reach + PartialEq>(
     rt: &impl Abort,
     over: &Overlay,
-    root: u32,
     level: u32,
+    count: usize,
     before: &R,
     record: &R,
 ) {
     let mut seen = [0; 64];
     assert!(rt; over.len() <= 512);
-    match Tree::<R>::verify(over, root, level, &mut seen) {
+    match Tree::<R>::verify(over, 1, level, &mut seen) {
         Ok(tree) => {
-            assert!(rt; tree.root() == root && tree.level() == level);
+            assert!(rt; tree.root() == 1 && tree.level() == level);
+            assert!(rt; tree.count(over) as usize == count);
             assert!(rt; tree.at_most(over, record) == Some(*record));
             assert!(rt; tree.at_least(over, before) == Some(*before));
             assert!(rt; record.valid());
@@ -235,7 +236,7 @@ fn finds<R: Kept + Reach + PartialEq>(
     }
 }
 
-/// A tree of one block and one of two levels are trees, and answer lookups.
+/// A tree of one block and one of two levels are trees, have all records, and answer lookups.
 fn stands<R: Kept + Reach + PartialEq>(
     rt: &impl Abort,
     alloc: Global,
@@ -249,15 +250,16 @@ fn stands<R: Kept + Reach + PartialEq>(
         GROUP_BLOCKS
     };
     assert!(rt; one.len() > 1 && two.len() > 1);
+    assert!(rt; one.len() < 512 && two.len() < 512);
     let mut blocks = empty(rt, alloc, first, count)?;
     put_leaf(rt, &mut blocks, 1, None, None, one);
     let over = overlay(rt, alloc, blocks)?;
-    finds(rt, &over, 1, 0, &one[0], &one[1]);
+    finds(rt, &over, 0, one.len(), &one[0], &one[1]);
 
     let mut blocks = empty(rt, alloc, first, count)?;
     put_tree(rt, &mut blocks, one, two);
     let over = overlay(rt, alloc, blocks)?;
-    finds(rt, &over, 1, 1, &two[0], &two[1]);
+    finds(rt, &over, 1, one.len() + two.len(), &two[0], &two[1]);
     Ok(())
 }
 

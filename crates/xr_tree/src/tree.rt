@@ -2,20 +2,19 @@
 ghost use Rattle.std.specs.Prelude.{◌≡◌, ℕ, ◌+◌, ◌*◌, ◌≤◌, ◌↔◌, true, false, length, IsOk, IfOk, IsTrue};
 ghost use Rattle.std.specs.List.{All, Contains};
 ghost use Rattle.xr_block.specs.Tree.{AreRecords};
-ghost use Rattle.xr_block.specs.Trees.{IsTree, blocks_of_tree, records_of_tree};
+ghost use Rattle.xr_block.specs.Trees.{IsOwnTree, IsTree, Marks, blocks_of_tree, records_of_tree};
 ghost use Rattle.xr_change.specs.Calls.{ChangesTree, blocks_for};
 ghost use Rattle.xr_change.specs.Sets.{inserted, removed, replaced};
 ghost use Rattle.xr_lookup.specs.Lookup.{FindsGreatest, FindsLeast, from, overlaps, up_to};
 ghost use Rattle.xr_pool.specs.Bits.{has_bit};
 ghost use Rattle.xr_pool.specs.Overlay.{free_count, pool_size};
-ghost use Rattle.xr_tree.specs.Calls.{IsTreeOfItsOwn, Marks};
 
 use std::marker::{Model, PhantomData};
 use xr_block::Root;
 use xr_block::fault::TreeFault;
 use xr_change::{insert_into_tree, remove_from_tree, replace_in_tree};
 use xr_kinds::Record;
-use xr_lookup::{Reach, at_least, at_most, overlap};
+use xr_lookup::{Reach, at_least, at_most, count, overlap};
 use xr_pool::Overlay;
 use xr_verify::{Kept, verify};
 
@@ -63,14 +62,15 @@ impl<R: Kept> Tree<R> {
         seen: &mut [u8],
     ) -> Result<Tree<R>, TreeFault>
         requires { pool_size over.now ≤ 8 * length seen.old }
-        ensures right { IsOk result ↔ IsTreeOfItsOwn R.form over.now (record { block = root; level = level }) seen.old }
+        ensures right { IsOk result ↔ IsOwnTree R.form over.now (record { block = root; level = level }) seen.old }
         ensures tree { IfOk result (λ tree. tree ≡ record { block = root; level = level }) }
         ensures long { length seen.new ≡ length seen.old }
         ensures marked { IfOk result (λ tree. Marks seen.old (blocks_of_tree R.form over.now tree) seen.new) }
     {
-        verify::<R>(over, root, level, seen)?;
+        let root = Root { block: root, level };
+        verify::<R>(over, root, seen)?;
         Ok(Tree {
-            root: Root { block: root, level },
+            root,
             kind: PhantomData,
         })
     }
@@ -82,7 +82,7 @@ impl<R: Reach> Tree<R> {
         requires { IsTree R.form over.now self.now }
         ensures { FindsGreatest R.form (records_of_tree R.form over.now self.now) (up_to R.form r.now) result }
     {
-        at_most(over, self.root.block, self.root.level, r)
+        at_most(over, self.root, r)
     }
 
     /// The least record that isn't below another.
@@ -90,7 +90,7 @@ impl<R: Reach> Tree<R> {
         requires { IsTree R.form over.now self.now }
         ensures { FindsLeast R.form (records_of_tree R.form over.now self.now) (from R.form r.now) result }
     {
-        at_least(over, self.root.block, self.root.level, r)
+        at_least(over, self.root, r)
     }
 
     /// The first record, in the order of the tree, that meets a valid one. Where a record is given to go on after, it is
@@ -100,11 +100,19 @@ impl<R: Reach> Tree<R> {
         requires valid { IsTrue (R.form.is_valid with.now) }
         ensures { FindsLeast R.form (records_of_tree R.form over.now self.now) (overlaps R.form with.now after) result }
     {
-        overlap(over, self.root.block, self.root.level, with, after)
+        overlap(over, self.root, with, after)
     }
 }
 
 impl<R: Record> Tree<R> {
+    /// How many records there are. Each leaf is passed once, and nothing is looked up.
+    pub fn count(&self, over: &Overlay) -> u32
+        requires { IsTree R.form over.now self.now }
+        ensures { result ≡ length (records_of_tree R.form over.now self.now) }
+    {
+        count::<R>(over, self.root)
+    }
+
     /// Puts a record into the tree. It may not be there, and the records keep their rules with it. For each full block on
     /// the path to its leaf, and for a full root once more, the pool has a free block. At most three blocks for each level
     /// and one more become changed ones.

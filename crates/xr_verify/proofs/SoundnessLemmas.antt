@@ -10,7 +10,8 @@ use Rattle.xr_block.specs.Rows.{min_records, leaves_from, rows_from}
 use Rattle.xr_block.specs.Tree.{AreRecords, blocks_of, records_of}
 use Rattle.xr_block.specs.TreeBlock.{records_in}
 use Rattle.xr_verify.specs.Visits.{AreFresh, AreMarked, AreSound, AreTrees, AreVisited, IsVisited, children, is_end, IsEntered, last_below, mark, HasChildren, HasOwnKeys}
-use Rattle.xr_verify.proofs.VisitLemmas.{records_append, times-append, times_blocks, trees_apart, trees_joined}
+use Rattle.xr_verify.proofs.VisitLemmas.{records_append, times_blocks, trees_apart, trees_joined}
+use Rattle.xr_block.specs.TimesLaws.{times-append}
 use Rattle.xr_block.specs.Times.{times}
 
 pub records_front : {X : Type 0} (form : Form X) (xs ys : List X) → AreRecords form (xs ++ ys) → AreRecords form xs

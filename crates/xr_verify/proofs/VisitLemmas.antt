@@ -16,10 +16,7 @@ use Rattle.xr_block.specs.TreeBlock.{Entry, count_in, entries_in}
 use Rattle.xr_verify.specs.Visits.{AreTrees, AreVisited, IsVisited, children, is_end, last_below, HasChildren}
 use Rattle.xr_verify.proofs.LastLemmas.{last_or-append, last_or-nth}
 use Rattle.xr_block.specs.Times.{times}
-
-pub times-append : (n : ℕ) (xs ys : List ℕ) → times n (xs ++ ys) ≡ times n xs + times n ys
-times-append n [] ys = omega arith
-times-append n (x ∷ xs) ys = omega (arith, times-append n xs ys)
+use Rattle.xr_block.specs.TimesLaws.{times-append}
 
 is_end-long : (xs ys : List ℕ) → 1 ≤ length xs → is_end (xs ++ ys) ≡ false
 is_end-long [] ys some = absurd (omega arith)

@@ -7,22 +7,16 @@ use Rattle.std.specs.List.{flat_map}
 use Rattle.xr_base.specs.declared.geometry.TheConstants.{BLOCKS}
 use Rattle.xr_block.specs.Checks.{IsCheckedNode, left_in, place_in, right_in}
 use Rattle.xr_kinds.specs.Form.{Form, IsForm, pointer_size}
-use Rattle.xr_pool.specs.Overlay.{AreWhole, Blocks, block_at, is_free, pool_size}
+use Rattle.xr_pool.specs.Overlay.{AreKnown, AreWhole, Blocks, block_at, is_free, pool_size}
 use Rattle.xr_block.specs.Rows.{AreLinked, AreNamed, AreRowsOf, IsWholeLeaf, IsWholeNode, first_of, min_records, rows_from}
 use Rattle.xr_block.specs.Tree.{IsUsed, blocks_of, site_of, tree_held}
 use Rattle.xr_block.specs.TreeBlock.{Entry, Place, entries_in}
 use Rattle.xr_verify.specs.Visits.{AreTrees, AreVisited, children, is_end, HasChildren, HasOwnKeys, IsChecked}
 use Rattle.xr_block.specs.CheckLaws.{Names}
 use Rattle.xr_block.specs.ItemCheckLaws.{leaf_read, leaf_checked, leaf_whole, node_read, node_checked, node_whole}
-use Rattle.xr_block.specs.TimesLaws.{times_more, times_other, times_same}
-use Rattle.xr_verify.proofs.VisitLemmas.{min_records_fit, times-append}
+use Rattle.xr_block.specs.TimesLaws.{times_more, times_other, times_same, times-append}
+use Rattle.xr_verify.proofs.VisitLemmas.{min_records_fit}
 use Rattle.xr_block.specs.Times.{times}
-
--- what is known of any overlay
-pub record AreKnown (b : Blocks) : Type 0 where
-  pub whole : AreWhole b.current
-  pub identified : length b.uuid ≡ 16
-  pub small : pool_size b ≤ BLOCKS
 
 -- all of some blocks are used
 abbrev pub AreUsed : Blocks → List ℕ → Type 0

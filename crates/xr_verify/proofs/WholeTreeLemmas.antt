@@ -5,11 +5,11 @@ use Rattle.std.proofs.lemmas.Bool.{cases_eq}
 use Rattle.std.specs.List.{All, Contains}
 use Rattle.xr_pool.specs.Bits.{has_bit}
 use Rattle.xr_kinds.specs.Form.{Form, IsForm}
-use Rattle.xr_pool.specs.Overlay.{Blocks, is_free, pool_size}
+use Rattle.xr_pool.specs.Overlay.{Blocks, is_free, pool_size, AreKnown}
 use Rattle.xr_block.specs.Tree.{IsTreeIn, IsUsed, least_of_root, tree_blocks}
 use Rattle.xr_verify.specs.Visits.{AreMarked, AreSound, mark, HasChildren}
 use Rattle.xr_block.specs.TimesLaws.{all_of, distinct_of, each_of, few_of, once_of, times_of, found_in}
-use Rattle.xr_verify.proofs.WholeRowLemmas.{AreKnown, rows_many, rows_whole, trees_whole}
+use Rattle.xr_verify.proofs.WholeRowLemmas.{rows_many, rows_whole, trees_whole}
 use Rattle.xr_block.specs.Times.{times}
 
 mark_clear : (seen : List ℕ) (n : ℕ) (bit : Bool) → has_bit seen n ≡ bit → mark seen n ≡ 0 → bit ≡ false

@@ -1,3 +1,4 @@
+-- Of no public contract.
 -- Runs of one owner by their lines: on a line a block's offset runs on with the block.
 use Rattle.std.specs.Prelude.{◌≡◌, ◌⊎◌, ℕ, ◌+◌, ◌-◌, ◌*◌, ◌<◌, ◌≤◌, ◌==◌, if◌then◌else◌, List, length, slice_index, slice_index_or}
 use Rattle.std.specs.List.{Any}

@@ -1,3 +1,4 @@
+-- Of no public contract.
 -- What is kept of the records of a tree that were passed.
 use Rattle.std.specs.Prelude.{◌≡◌, ◌+◌, None, List, length}
 use Rattle.std.specs.List.{last_or}

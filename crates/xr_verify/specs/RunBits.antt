@@ -1,3 +1,4 @@
+-- Of no public contract.
 -- Which blocks of a group the runs of some records hold, as a map of bits.
 use Rattle.std.specs.Prelude.{◌≡◌, ℕ, ◌<◌, true, List, length, slice_index_or}
 use Rattle.std.specs.List.{Any}

@@ -1,6 +1,8 @@
+-- Of no public contract.
 -- A tree as it is visited, each block before its children and from left to right: what is asked of each block, and what is
 -- known after some of them.
 use Rattle.std.specs.Prelude.{◌≡◌, ℕ, zero, suc, ◌+◌, ◌-◌, ◌<◌, ◌≤◌, ◌&&◌, ⊤, Bool, true, false, nat_le, nat_lt, if◌then◌else◌, IfSome, Option, Some, None, List, [], ◌∷◌, ◌++◌, length, map}
+use Rattle.std.specs.Borrow.{Bor}
 use Rattle.std.specs.List.{flat_map}
 use Rattle.xr_pool.specs.Bits.{has_bit}
 use Rattle.xr_block.specs.Checks.{IsCheckedLeaf, IsCheckedNode, left_in, right_in}
@@ -25,6 +27,10 @@ abbrev pub HasOwnKeys : {X : Type 0} → Form X → Blocks → ℕ → ℕ → T
 HasOwnKeys form b zero n = ⊤
 HasOwnKeys form b (suc level) n =
     map (λ (e : Entry). e.key) (entries_in form (block_at b n)) ≡ map (key_held form (tree_held form b) level) (children form b n)
+
+-- the key that a node gives for a block, if it is below one, is the block's own
+abbrev pub IsKeyOf : {X : Type 0} → Form X → Blocks → ℕ → ℕ → Option (Bor (List ℕ)) → Type 0
+IsKeyOf form b level n key = IfSome key (λ k. k.now ≡ key_held form (tree_held form b) level n)
 
 -- the left sibling of a block's first child is the last child of its own left sibling
 abbrev pub last_below : {X : Type 0} → Form X → Blocks → Option ℕ → Option ℕ

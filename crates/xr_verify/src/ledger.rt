@@ -21,7 +21,8 @@ pub trait Ledger<R: Record>: Drop {
     /// Notes the next record.
     fn note(&mut self, r: &R)
         requires { IsTrue (R.form.is_valid r.now) }
-        ensures { (noted : List R) → notes self.old noted → IsNext R.form noted r.now → AgreesWithAll R.form noted r.now → notes self.new (noted ++ r.now ∷ []) };
+        ensures { (noted : List R) → notes self.old noted → IsNext R.form noted r.now → AgreesWithAll R.form noted r.now
+            → notes self.new (noted ++ r.now ∷ []) };
 }
 
 /// A kind of record with its ledger.

@@ -50,8 +50,12 @@ fn climb<R: Record>(block: &Block, last: Option<R>) -> bool
 /// Whether each record of a leaf agrees with all that were noted, and with those before it in the leaf. Notes them all if so.
 fn merge<R: Record, L: Ledger<R>>(block: &Block, ledger: &mut L) -> bool
     requires { HoldsRecords R.form block.now }
-    ensures agree { (noted : List R) → L.notes ledger.old noted → ArePassed R.form noted → Climb R.form (last_or None noted) (records_in R.form block.now) → (IsTrue result ↔ ArePassed R.form (noted ++ records_in R.form block.now)) }
-    ensures noted { (noted : List R) → L.notes ledger.old noted → ArePassed R.form noted → Climb R.form (last_or None noted) (records_in R.form block.now) → IsTrue result → L.notes ledger.new (noted ++ records_in R.form block.now) }
+    ensures agree { (noted : List R) → L.notes ledger.old noted → ArePassed R.form noted
+        → Climb R.form (last_or None noted) (records_in R.form block.now)
+        → (IsTrue result ↔ ArePassed R.form (noted ++ records_in R.form block.now)) }
+    ensures noted { (noted : List R) → L.notes ledger.old noted → ArePassed R.form noted
+        → Climb R.form (last_or None noted) (records_in R.form block.now) → IsTrue result
+        → L.notes ledger.new (noted ++ records_in R.form block.now) }
 {
     for k in 0..count_of(block) {
         let record = checked_record::<R>(block, k);
@@ -91,8 +95,10 @@ impl<R: Record, L: Ledger<R>> Passed<R, L> {
     /// Passes the records of a leaf, if they keep the rules with all before them.
     pub(crate) fn pass(&mut self, block: &Block) -> Result<(), TreeKind>
         requires { HoldsRecords R.form block.now }
-        ensures rules { (noted : List R) → AreNoted R.form L.notes self.old noted → (IsOk result ↔ ArePassed R.form (noted ++ records_in R.form block.now)) }
-        ensures noted { (noted : List R) → AreNoted R.form L.notes self.old noted → IsOk result → AreNoted R.form L.notes self.new (noted ++ records_in R.form block.now) }
+        ensures rules { (noted : List R) → AreNoted R.form L.notes self.old noted
+            → (IsOk result ↔ ArePassed R.form (noted ++ records_in R.form block.now)) }
+        ensures noted { (noted : List R) → AreNoted R.form L.notes self.old noted → IsOk result
+            → AreNoted R.form L.notes self.new (noted ++ records_in R.form block.now) }
         ensures room { self.new.room ≡ self.old.room }
     {
         if !climb::<R>(block, self.last) {

@@ -1,6 +1,7 @@
 //! Whether the blocks below a root are a tree. Each block is visited before its children, from left to right, and each is
 //! tested before its pointers are followed. No memory is taken: the ledger of the records stands on the stack.
-ghost use Rattle.std.specs.Prelude.{◌≡◌, ℕ, ◌+◌, ◌*◌, ◌-◌, ◌<◌, ◌≤◌, ◌==◌, ◌&&◌, ◌↔◌, ◌++◌, [], ◌∷◌, true, false, None, length, List, IsOk, IfOk, IfSome};
+ghost use Rattle.std.specs.Prelude.{◌≡◌, ℕ, ◌+◌, ◌*◌, ◌-◌, ◌<◌, ◌≤◌, ◌==◌, ◌&&◌, ◌↔◌, ◌++◌};
+ghost use Rattle.std.specs.Prelude.{[], ◌∷◌, true, false, None, length, List, IsOk, IfOk, IfSome};
 ghost use Rattle.std.specs.List.{All, Contains};
 ghost use Rattle.xr_pool.specs.Bits.{has_bit};
 ghost use Rattle.xr_kinds.specs.Form.{key_size};
@@ -10,12 +11,15 @@ ghost use Rattle.xr_verify.specs.Passed.{IsPast};
 ghost use Rattle.xr_block.specs.Rows.{min_records, key_held};
 ghost use Rattle.xr_block.specs.Tree.{AreRecords, IsTreeIn, blocks_of, least_of_root, records_of, tree_blocks, tree_held};
 ghost use Rattle.xr_block.specs.TreeBlock.{count_in, records_in};
-ghost use Rattle.xr_verify.specs.Visits.{AreMarked, AreNamedFrom, AreSound, IsEntered, IsLinked, children, last_below, HasChildren, IsChecked};
+ghost use Rattle.xr_verify.specs.Visits.{AreMarked, AreNamedFrom, AreSound, IsEntered, IsLinked, children};
+ghost use Rattle.xr_verify.specs.Visits.{last_below, HasChildren, IsChecked, IsKeyOf};
+ghost use Rattle.xr_block.specs.Trees.{IsOwnTree, Marks, blocks_of_tree};
 
 use crate::enter::{is_named, open};
 use crate::ledger::{Kept, Ledger};
 use crate::links::{is_linked, last_child};
 use crate::passed::Passed;
+use xr_block::Root;
 use xr_block::fault::{TreeFault, TreeKind};
 use xr_block::read::{child_at, count_of, key_at, record_count};
 use xr_kinds::Record;
@@ -41,7 +45,7 @@ fn check_place<R: Record>(
     requires within { spot.number < pool_size over.now }
     requires tested { (least : ℕ) × IsChecked R.form over.now least level spot.number }
     requires long { IfSome key (λ k. length k.now ≡ key_size R.form) }
-    ensures { IsOk result ↔ (IfSome key.entry (λ k. k.now ≡ key_held R.form (tree_held R.form over.now) level spot.number) × IsLinked R.form over.now spot.left spot.last spot.number) }
+    ensures { IsOk result ↔ (IsKeyOf R.form over.now level spot.number key.entry × IsLinked R.form over.now spot.left spot.last spot.number) }
 {
     if !is_named::<R>(over, spot.number, level, key) {
         Err(TreeKind::Key)
@@ -64,8 +68,11 @@ fn enter_leaf<R: Record, L: Ledger<R>>(
     requires within { spot.number < pool_size over.now }
     requires room { pool_size over.now ≤ 8 * length seen.old }
     requires long { IfSome key (λ k. length k.now ≡ key_size R.form) }
-    ensures rules { (noted : List R) → IsPast R.form L.notes passed.old noted → (IsOk result ↔ (IsEntered R.form over.now spot.least 0 spot.left spot.last spot.number seen.old × IfSome key.entry (λ k. k.now ≡ key_held R.form (tree_held R.form over.now) 0 spot.number) × AreRecords R.form (noted ++ records_in R.form (block_at over.now spot.number)))) }
-    ensures past { (noted : List R) → IsPast R.form L.notes passed.old noted → IsOk result → IsPast R.form L.notes passed.new (noted ++ records_in R.form (block_at over.now spot.number)) }
+    ensures rules { (noted : List R) → IsPast R.form L.notes passed.old noted
+        → (IsOk result ↔ (IsEntered R.form over.now spot.least 0 spot.left spot.last spot.number seen.old
+        × IsKeyOf R.form over.now 0 spot.number key.entry × AreRecords R.form (noted ++ records_in R.form (block_at over.now spot.number)))) }
+    ensures past { (noted : List R) → IsPast R.form L.notes passed.old noted → IsOk result
+        → IsPast R.form L.notes passed.new (noted ++ records_in R.form (block_at over.now spot.number)) }
     ensures marked { IsOk result → AreMarked seen.old (spot.number ∷ []) seen.new }
     ensures long { length seen.new ≡ length seen.old }
 {
@@ -88,7 +95,8 @@ fn enter_node<R: Record>(
     requires within { spot.number < pool_size over.now }
     requires room { pool_size over.now ≤ 8 * length seen.old }
     requires long { IfSome key (λ k. length k.now ≡ key_size R.form) }
-    ensures rules { IsOk result ↔ (IsEntered R.form over.now spot.least level spot.left spot.last spot.number seen.old × IfSome key.entry (λ k. k.now ≡ key_held R.form (tree_held R.form over.now) level spot.number)) }
+    ensures rules { IsOk result ↔ (IsEntered R.form over.now spot.least level spot.left spot.last spot.number seen.old
+        × IsKeyOf R.form over.now level spot.number key.entry) }
     ensures marked { IsOk result → AreMarked seen.old (spot.number ∷ []) seen.new }
     ensures long { length seen.new ≡ length seen.old }
 {
@@ -170,8 +178,12 @@ fn visit_children<R: Record, L: Ledger<R>>(
     requires within { node.number < pool_size over.now }
     requires few { count_in (block_at over.now node.number) ≤ R.form.node_max }
     requires room { pool_size over.now ≤ 8 * length seen.old }
-    ensures rules { (noted : List R) → IsPast R.form L.notes passed.old noted → (IsOk result ↔ (AreSound R.form over.now (min_records R.form level) level (last_below R.form over.now node.left) node.last (children R.form over.now node.number) seen.old noted × AreNamedFrom R.form over.now level node.number 0)) }
-    ensures past { (noted : List R) → IsPast R.form L.notes passed.old noted → IsOk result → IsPast R.form L.notes passed.new (noted ++ records_of R.form over.now level (children R.form over.now node.number)) }
+    ensures rules { (noted : List R) → IsPast R.form L.notes passed.old noted
+        → (IsOk result
+        ↔ (AreSound R.form over.now (min_records R.form level) level (last_below R.form over.now node.left) node.last
+        (children R.form over.now node.number) seen.old noted × AreNamedFrom R.form over.now level node.number 0)) }
+    ensures past { (noted : List R) → IsPast R.form L.notes passed.old noted → IsOk result
+        → IsPast R.form L.notes passed.new (noted ++ records_of R.form over.now level (children R.form over.now node.number)) }
     ensures marked { IsOk result → AreMarked seen.old (blocks_of R.form over.now level (children R.form over.now node.number)) seen.new }
     ensures long { length seen.new ≡ length seen.old }
 {
@@ -214,8 +226,11 @@ fn visit<R: Record, L: Ledger<R>>(
     requires some { HasChildren spot.least level }
     requires room { pool_size over.now ≤ 8 * length seen.old }
     requires long { IfSome key (λ k. length k.now ≡ key_size R.form) }
-    ensures rules { (noted : List R) → IsPast R.form L.notes passed.old noted → (IsOk result ↔ (AreSound R.form over.now spot.least level spot.left spot.last (spot.number ∷ []) seen.old noted × IfSome key.entry (λ k. k.now ≡ key_held R.form (tree_held R.form over.now) level spot.number))) }
-    ensures past { (noted : List R) → IsPast R.form L.notes passed.old noted → IsOk result → IsPast R.form L.notes passed.new (noted ++ records_of R.form over.now level (spot.number ∷ [])) }
+    ensures rules { (noted : List R) → IsPast R.form L.notes passed.old noted
+        → (IsOk result ↔ (AreSound R.form over.now spot.least level spot.left spot.last (spot.number ∷ []) seen.old noted
+        × IsKeyOf R.form over.now level spot.number key.entry)) }
+    ensures past { (noted : List R) → IsPast R.form L.notes passed.old noted → IsOk result
+        → IsPast R.form L.notes passed.new (noted ++ records_of R.form over.now level (spot.number ∷ [])) }
     ensures marked { IsOk result → AreMarked seen.old (blocks_of R.form over.now level (spot.number ∷ [])) seen.new }
     ensures long { length seen.new ≡ length seen.old }
 {
@@ -246,37 +261,27 @@ fn root_spot(root: u32, level: u32) -> Spot
 }
 
 /// Visits a root and all that is below it.
-fn visit_root<R: Kept>(
-    over: &Overlay,
-    root: u32,
-    level: u32,
-    seen: &mut [u8],
-) -> Result<(), TreeFault>
+fn visit_root<R: Kept>(over: &Overlay, root: Root, seen: &mut [u8]) -> Result<(), TreeFault>
     requires { pool_size over.now ≤ 8 * length seen.old }
-    ensures right { IsOk result ↔ (IsTreeIn R.form over.now root level × All (λ n. has_bit seen.old n ≡ false) (tree_blocks R.form over.now root level)) }
-    ensures marked { IsOk result → AreMarked seen.old (tree_blocks R.form over.now root level) seen.new }
+    ensures right { IsOk result ↔ IsOwnTree R.form over.now root seen.old }
+    ensures marked { IsOk result → AreMarked seen.old (blocks_of_tree R.form over.now root) seen.new }
     ensures long { length seen.new ≡ length seen.old }
 {
     over.has_blocks();
-    in_pool(over, 0, u64::from(root))?;
+    in_pool(over, 0, u64::from(root.block))?;
     let mut passed = Passed::<R, R::Ledger>::new();
-    visit(over, level, root_spot(root, level), None, &mut passed, seen)
+    let spot = root_spot(root.block, root.level);
+    visit(over, root.level, spot, None, &mut passed, seen)
 }
 
 /// Ok where the blocks below a root are a tree and none of them is marked in `seen`, which has a bit for each block of the
 /// pool: bit `n % 8` of byte `n / 8`, the lowest first, for block `n`. The tree's blocks are marked there. After a fault
 /// `seen` may hold any marks.
-pub fn verify<R: Kept>(
-    over: &Overlay,
-    root: u32,
-    level: u32,
-    seen: &mut [u8],
-) -> Result<(), TreeFault>
+pub fn verify<R: Kept>(over: &Overlay, root: Root, seen: &mut [u8]) -> Result<(), TreeFault>
     requires { pool_size over.now ≤ 8 * length seen.old }
-    ensures right { IsOk result ↔ (IsTreeIn R.form over.now root level × All (λ n. has_bit seen.old n ≡ false) (tree_blocks R.form over.now root level)) }
+    ensures right { IsOk result ↔ IsOwnTree R.form over.now root seen.old }
     ensures long { length seen.new ≡ length seen.old }
-    ensures marked { IsOk result → (n : ℕ) → Contains (tree_blocks R.form over.now root level) n → has_bit seen.new n ≡ true }
-    ensures others { IsOk result → (n : ℕ) → ¬ (Contains (tree_blocks R.form over.now root level) n) → has_bit seen.new n ≡ has_bit seen.old n }
+    ensures marked { IsOk result → Marks seen.old (blocks_of_tree R.form over.now root) seen.new }
 {
-    visit_root::<R>(over, root, level, seen)
+    visit_root::<R>(over, root, seen)
 }

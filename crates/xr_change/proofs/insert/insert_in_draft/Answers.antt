@@ -1,8 +1,8 @@
-use Rattle.std.proofs.Common.{◌≡◌, ◌∙◌, ℕ, Bool, true, if◌then◌else◌, [], ◌∷◌, sym, ap, subst, arith}
+use Rattle.std.proofs.Common.{◌≡◌, ◌∙◌, ℕ, Bool, if◌then◌else◌, [], ◌∷◌, sym, ap, subst, arith}
 use Rattle.xr_block.specs.FrameLaws.{then_changes}
 use Rattle.xr_block.specs.Tree.{AreRecords}
 use Rattle.xr_change.proofs.FullPathLemmas.{full_if, room_if}
-use Rattle.xr_change.proofs.SetLemmas.{inserted_has}
+use Rattle.xr_change.proofs.SetLemmas.{inserted_valid}
 use Rattle.xr_change.proofs.WriteLemmas.{unmarked_few}
 use Rattle.xr_change.proofs.WholeTreeLemmas.{changed_frame, changed_tree, root_few, root_here, root_least, some_if, tree_after}
 use Rattle.xr_change.specs.Sets.{inserted}
@@ -21,7 +21,7 @@ insert_below-requires-clause-room g c =
     (sym c.is_full.ensures ∙ c.if-not-is_full.true)
 
 pub insert_below-requires-clause-valid : goal.insert_below-requires-clause-valid
-insert_below-requires-clause-valid g c = inserted_has (λ (x : g.row.R.Denot). g.R.Record.form.is_valid x ≡ true) g.R.Record.form.order c.args.r.now _ c.requires.rules.valid
+insert_below-requires-clause-valid g c = inserted_valid g.R.Record.form c.args.r.now _ c.requires.rules
 
 pub returns-then-not-is_full-clause-step : goal.returns-then-not-is_full-clause-step
 returns-then-not-is_full-clause-step g c =
@@ -33,7 +33,7 @@ pub grow_root-top-requires-clause-full : goal.grow_root-top-requires-clause-full
 grow_root-top-requires-clause-full g c = full_if g.R.Record.form c.args.draft.now c.args.root.level c.args.root.block (sym c.is_full.ensures ∙ c.if-not-is_full.false)
 
 pub insert_below-requires-2-clause-valid : goal.insert_below-requires-2-clause-valid
-insert_below-requires-2-clause-valid g c = inserted_has (λ (x : g.row.R.Denot). g.R.Record.form.is_valid x ≡ true) g.R.Record.form.order c.args.r.now _ c.requires.rules.valid
+insert_below-requires-2-clause-valid g c = inserted_valid g.R.Record.form c.args.r.now _ c.requires.rules
 
 pub returns-clause-step : goal.returns-clause-step
 returns-clause-step g c =

@@ -1,17 +1,15 @@
-use Rattle.std.proofs.Common.{◌≡◌, ◌+◌, ◌^◌, ◌∙◌, ◌<◌, ℕ, [], ◌∷◌, None, refl, arith}
+use Rattle.std.proofs.Common.{◌≡◌, ◌+◌, ◌^◌, ◌<◌, ℕ, [], ◌∷◌, None, arith}
 use Rattle.xr_kinds.specs.Form.{Form, IsForm, pointer_size}
-use Rattle.xr_pool.specs.Overlay.{Blocks}
+use Rattle.xr_pool.specs.Overlay.{Blocks, AreKnown}
 use Rattle.xr_pool.specs.OverlayLaws.{block_written}
 use Rattle.xr_block.specs.Rows.{min_records}
 use Rattle.xr_block.specs.Tree.{site_of}
 use Rattle.xr_block.specs.TreeBlock.{Entry, Place}
-use Rattle.xr_change.proofs.EditLemmas.{key_read}
-use Rattle.xr_change.proofs.ReadLemmas.{read_keyed}
 use Rattle.xr_change.proofs.WholeTreeLemmas.{pointer_fits}
 use Rattle.xr_change.proofs.StepLemmas.{row_below, row_keyed}
 use Rattle.xr_change.proofs.ParentLemmas.{level_small}
 use Rattle.xr_change.proofs.WriteLemmas.{block_writes}
-use Rattle.xr_change.specs.Alters.{AreKnown, AreRowsIn}
+use Rattle.xr_change.specs.Alters.{AreRowsIn}
 use Rattle.xr_change.specs.Regroups.{entry_for}
 use Rattle.xr_block.specs.Edits.{sealed}
 use Rattle.xr_block.specs.UnderLaws.{min_records_some}
@@ -26,14 +24,12 @@ overflow_add-root g c =
     let small = few_levels g.R.Record.form g.met.R.Record.is_form c.args.draft.now c.is_known.ensures c.args.root.level c.args.root.block c.requires.rows in
     search (arith, small)
 
-pub block-requires : goal.block-requires
-block-requires g c = row_below g.R.Record.form c.args.draft.now (min_records g.R.Record.form c.args.root.level) c.args.root.level [] c.args.root.block [] c.requires.rows
+pub key_of-key-requires-clause-here : goal.key_of-key-requires-clause-here
+key_of-key-requires-clause-here g c = row_below g.R.Record.form c.args.draft.now (min_records g.R.Record.form c.args.root.level) c.args.root.level [] c.args.root.block [] c.requires.rows
 
-pub put_key-requires-clause-keyed : goal.put_key-requires-clause-keyed
-put_key-requires-clause-keyed g c =
-    let form = g.R.Record.form in
-    read_keyed form c.block.result.now _ c.block.ensures c.args.root.level
-    (row_keyed form g.met.R.Record.is_form c.args.draft.now c.is_known.ensures c.args.root.level [] c.args.root.block [] c.requires.rows)
+pub key_of-key-requires-clause-keyed : goal.key_of-key-requires-clause-keyed
+key_of-key-requires-clause-keyed g c =
+    row_keyed g.R.Record.form g.met.R.Record.is_form c.args.draft.now c.is_known.ensures c.args.root.level [] c.args.root.block [] c.requires.rows
 
 pub put_single-requires-clause-level : goal.put_single-requires-clause-level
 put_single-requires-clause-level g c =
@@ -49,8 +45,7 @@ returns-clause-node g c =
     let b = c.args.draft.now in
     let place : Place = record { number = c.args.p; level = c.args.root.level + 1; left = None; right = None } in
     let entry : Entry = entry_for form b c.args.root.level c.args.root.block in
-    let key : c.put_key.new.out ≡ entry.key =
-    c.put_key.ensures c.args.root.block (λ m. c.block.result.now) refl ∙ key_read form b c.block.result.now c.args.root.level c.args.root.block c.block.ensures in
+    let key : c.key_of-key.result.now ≡ entry.key = c.key_of-key.ensures.key in
     let number : c.args.root.block < 256 ^ pointer_size form =
     pointer_fits form b c.is_known.ensures c.args.root.block
     (row_below form b (min_records form c.args.root.level) c.args.root.level [] c.args.root.block [] c.requires.rows) in

@@ -1,10 +1,10 @@
-use Rattle.std.proofs.Common.{◌≡◌, ◌∙◌, List, [], ◌∷◌, refl, sym, subst}
+use Rattle.std.proofs.Common.{◌≡◌, ◌∙◌, List, [], ◌∷◌, sym, subst}
 use Rattle.xr_pool.specs.Overlay.{block_at}
 use Rattle.xr_block.specs.Rows.{min_records, key_held}
 use Rattle.xr_block.specs.Tree.{tree_held}
 use Rattle.xr_block.specs.TreeBlock.{Entry}
-use Rattle.xr_change.proofs.EditLemmas.{edited_node, key_read}
-use Rattle.xr_change.proofs.ReadLemmas.{read_key, read_keyed}
+use Rattle.xr_change.proofs.EditLemmas.{edited_node}
+use Rattle.xr_change.proofs.ReadLemmas.{read_key}
 use Rattle.xr_change.proofs.StepLemmas.{keyed_again, row_below, row_keyed}
 use Rattle.xr_change.proofs.WriteLemmas.{block_writes}
 use Rattle.xr_change.specs.Writes.{Writes}
@@ -12,15 +12,13 @@ use Rattle.xr_block.specs.Edits.{IsNodeOf, sealed, with_key}
 use Rattle.xr_block.specs.NodeEntries.{key_in}
 use Rattle.xr_change.proofs.write.update_key.Goals as goal
 
-pub block-requires : goal.block-requires
-block-requires g c =
+pub key_of-key-requires-clause-here : goal.key_of-key-requires-clause-here
+key_of-key-requires-clause-here g c =
     row_below g.R.Record.form c.args.draft.now (min_records g.R.Record.form c.args.level) c.args.level c.requires.pre c.args.c c.requires.post c.requires.rows
 
-pub put_key-requires-clause-keyed : goal.put_key-requires-clause-keyed
-put_key-requires-clause-keyed g c =
-    let form = g.R.Record.form in
-    read_keyed form c.block.result.now _ c.block.ensures c.args.level
-    (row_keyed form g.met.R.Record.is_form c.args.draft.now c.is_known.ensures c.args.level c.requires.pre c.args.c c.requires.post c.requires.rows)
+pub key_of-key-requires-clause-keyed : goal.key_of-key-requires-clause-keyed
+key_of-key-requires-clause-keyed g c =
+    row_keyed g.R.Record.form g.met.R.Record.is_form c.args.draft.now c.is_known.ensures c.args.level c.requires.pre c.args.c c.requires.post c.requires.rows
 
 pub returns-clause-marks : goal.returns-clause-marks
 returns-clause-marks g c =
@@ -32,19 +30,15 @@ pub returns-clause-node : goal.returns-clause-node
 returns-clause-node g c =
     let form = g.R.Record.form in
     let b = c.args.draft.now in
-    let key : c.put_key.new.out ≡ key_held form (tree_held form b) c.args.level c.args.c =
-    c.put_key.ensures c.args.c (λ m. c.block.result.now) refl ∙ key_read form b c.block.result.now c.args.level c.args.c c.block.ensures in
     edited_node form b c.args.n _ (with_key c.args.k (key_held form (tree_held form b) c.args.level c.args.c)) c.requires.here c.block_mut.ensures.value
-    (rw key at c.set_key.ensures)
+    (rw c.key_of-key.ensures.key at c.set_key.ensures)
 
 pub returns-then-is_same-clause-node : goal.returns-then-is_same-clause-node
 returns-then-is_same-clause-node g c = λ site place entries whole.
     let form = g.R.Record.form in
     let b = c.args.draft.now in
-    let key : c.put_key.new.out ≡ key_held form (tree_held form b) c.args.level c.args.c =
-    c.put_key.ensures c.args.c (λ m. c.block.result.now) refl ∙ key_read form b c.block.result.now c.args.level c.args.c c.block.ensures in
     let same = c.is_same.ensures.0 c.if-is_same.true in
     let had : key_in form c.args.k (block_at b c.args.n) ≡ key_held form (tree_held form b) c.args.level c.args.c =
-    sym (read_key form c.block-2.result.now _ c.block-2.ensures c.args.k) ∙ sym c.key_at.ensures ∙ same ∙ key in
+    sym (read_key form c.block.result.now _ c.block.ensures c.args.k) ∙ sym c.key_at.ensures ∙ same ∙ c.key_of-key.ensures.key in
     subst (λ (es : List Entry). IsNodeOf form site place es (block_at b c.args.n))
     (sym (keyed_again form g.met.R.Record.is_form site place entries (block_at b c.args.n) whole c.args.k _ c.requires.within had)) whole

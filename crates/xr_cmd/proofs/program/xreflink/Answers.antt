@@ -1,5 +1,5 @@
 use Rattle.std.specs.Cow.{cow_str_bytes}
-use Rattle.xr_cmd.proofs.AnswerLemmas.{said_done}
+use Rattle.xr_cmd.proofs.AnswerLemmas.{said_done, said_memory}
 use Rattle.xr_cmd.proofs.program.xreflink.Goals as goal
 
 pub returns-clause-ends : goal.returns-clause-ends
@@ -12,3 +12,6 @@ returns-clause-ends g c = record {
 
 pub returns-clause-read_to_end : goal.returns-clause-read_to_end
 returns-clause-read_to_end g c = λ asked zero. c.answer_to-answer.ensures.read_to_end asked (said_done _ _ _ _ _ _ c.finish.ensures.ends zero)
+
+pub returns-clause-alone : goal.returns-clause-alone
+returns-clause-alone g c = λ formats eight. c.answer_to-answer.ensures.alone formats (said_memory _ _ _ _ _ _ c.finish.ensures.ends eight)

@@ -1,7 +1,7 @@
 use Rattle.std.proofs.lemmas.Result.{err_from_is_err_and}
 use Rattle.std.proofs.Common.{sym, subst}
 use Rattle.xr_commit.proofs.ChainLemmas.{follow_breaks, follow_ends, follow_on, lsn_differs, lsn_same, or_no_memory}
-use Rattle.xr_commit.specs.Following.{HasChain, HasNoChain}
+use Rattle.xr_commit.specs.ChainHeaders.{HasChain, HasNoChain}
 use Rattle.xr_commit.proofs.chain.follow.Goals as goal
 
 pub returns-in_err-last-clause-broken : goal.returns-in_err-last-clause-broken

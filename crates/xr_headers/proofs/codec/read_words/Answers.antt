@@ -1,17 +1,8 @@
 use Rattle.std.proofs.Common.{◌≡◌, ℕ, ◌+◌, ◌-◌, ◌*◌, ◌^◌, ◌<◌, ◌∙◌, length, take, drop, ap, arith}
 use Rattle.std.proofs.lemmas.List.Elements.{All-from_get_or}
 use Rattle.xr_headers.specs.Padded.{numbers_in}
-use Rattle.xr_headers.specs.ReadBackLaws.{numbers_read, words_read}
+use Rattle.xr_headers.specs.ReadBackLaws.{numbers_read}
 use Rattle.xr_headers.proofs.codec.read_words.Goals as goal
-
-pub returns-clause-again : goal.returns-clause-again
-returns-clause-again c =
-    λ written all long is.
-    let at = c.args.at in
-    let size = 4 * length c.args.numbers.now in
-    let rest = drop at c.args.bytes.now in
-    let count : at + size - at ≡ size = omega arith in
-    words_read written c.read_u32_into.new.dst (take (at + size - at) rest) all (omega arith) (ap (λ (n : ℕ). take n rest) count ∙ is) c.read_u32_into.ensures
 
 pub returns-clause-words : goal.returns-clause-words
 returns-clause-words c = All-from_get_or (λ (number : ℕ). number < 2 ^ 32) c.read_u32_into.new.dst 0 (λ i within. let fits = c.type_inv.numbers i in omega arith)

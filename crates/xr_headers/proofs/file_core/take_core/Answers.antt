@@ -1,11 +1,11 @@
-use Rattle.std.proofs.Common.{◌≡◌, List, ℕ, take, refl, sym, arith, inr, ◌∙◌, ap}
+use Rattle.std.proofs.Common.{◌≡◌, List, ℕ, take, refl, sym, arith, inr, ◌∙◌, ap, subst}
 use Rattle.std.proofs.lemmas.List.{length-take-le, take_rest}
 use Rattle.xr_base.specs.declared.geometry.TheConstants.{BLOCK_BYTES}
 use Rattle.xr_headers.specs.declared.layout.TheConstants.{CORE_BYTES}
 use Rattle.xr_headers.specs.declared.file_core.Core.{Core}
-use Rattle.xr_headers.specs.Headers.{core_block, core_bytes}
+use Rattle.xr_headers.specs.Headers.{core_block, core_bytes, KeepsFilePool}
 use Rattle.xr_headers.specs.HeaderLaws.{length-core_bytes}
-use Rattle.xr_headers.proofs.FirstWrongLemmas.{first_behind}
+use Rattle.xr_headers.proofs.FirstWrongLemmas.{first_after}
 use Rattle.xr_headers.specs.PaddingLaws.{front_from_padded, padded_from_parts, zeros_from_padded}
 use Rattle.xr_headers.proofs.file_core.take_core.Goals as goal
 
@@ -45,6 +45,7 @@ pub returns-in-Some-clause-field : goal.returns-in-Some-clause-field
 returns-in-Some-clause-field c =
     inr (
       c.in-Ok.ensures.ok.3 ∙ ap core_bytes c.in-Ok.ensures.held,
-      first_behind BLOCK_BYTES CORE_BYTES c.in-Some.place c.args.bytes.now _ (take_rest c.args.bytes.now CORE_BYTES) c.requires.room
+      subst KeepsFilePool c.in-Ok.ensures.held c.in-Ok.ensures.ok.0.pool,
+      first_after BLOCK_BYTES CORE_BYTES c.in-Some.place c.args.bytes.now _ (take_rest c.args.bytes.now CORE_BYTES) c.requires.room
           c.in-Some.ensures.within c.in-Some.ensures.differs c.in-Some.ensures.first,
     )

@@ -1,16 +1,18 @@
-use Rattle.std.proofs.Common.{◌≡◌, ◌-◌, ◌∙◌, List, ℕ, length, refl, sym, ap, subst, arith, rules, inl, inr}
-use Rattle.xr_headers.specs.declared.layout.TheConstants.{CORE_SEAL, CORE_BYTES, CORE_FIELDS}
+use Rattle.std.proofs.Common.{Ok, ◌≡◌, ◌-◌, ◌+◌, ◌∙◌, List, ℕ, length, refl, sym, ap, subst, arith, rules, inl, inr}
+use Rattle.xr_headers.specs.declared.layout.TheConstants.{CORE_CRC, CORE_BYTES, CORE_FIELDS}
 use Rattle.xr_headers.specs.declared.file_core.Core.{Core}
-use Rattle.xr_headers.specs.Headers.{core_bytes, core_fields, KeepsFilePool}
-use Rattle.xr_headers.specs.Padded.{IsLaid, with_crc, zero_padded}
+use Rattle.xr_headers.specs.Headers.{core_bytes, core_fields, core_in, IsCore, KeepsFilePool}
+use Rattle.xr_headers.specs.Padded.{IsZeroPadded, with_crc, zero_padded}
+use Rattle.xr_base.specs.declared.geometry.TheConstants.{FIRST_INODE, UUID_BYTES}
+use Rattle.xr_headers.specs.HeaderValueLaws.{core_in-core_bytes}
 use Rattle.xr_headers.specs.FirstWrong.{IsCoreOutOfRange, NamesCoreField}
 use Rattle.xr_headers.proofs.FirstWrongLemmas.{Finds, field_named}
 use Rattle.xr_headers.specs.ChecksumLaws.{wanted_is}
 use Rattle.xr_headers.proofs.file_core.take_core_bytes.Goals as goal
 
-block : (bytes : List ℕ) (v : Core) (wanted : List ℕ) → length bytes ≡ CORE_BYTES → IsLaid CORE_FIELDS CORE_FIELDS (core_fields v) wanted
+block : (bytes : List ℕ) (v : Core) (wanted : List ℕ) → length bytes ≡ CORE_BYTES → IsZeroPadded CORE_FIELDS CORE_FIELDS (core_fields v) wanted
     → with_crc (length bytes - 4) (zero_padded (length bytes) wanted) ≡ core_bytes v
-block bytes v wanted long laid = wanted_is CORE_BYTES CORE_SEAL CORE_FIELDS bytes (core_fields v) wanted long (omega arith) (omega arith) laid
+block bytes v wanted long laid = wanted_is CORE_BYTES CORE_CRC CORE_FIELDS bytes (core_fields v) wanted long (omega arith) (omega arith) laid
 
 pub returns-in-None-clause-ok : goal.returns-in-None-clause-ok
 returns-in-None-clause-ok c =
@@ -27,10 +29,19 @@ returns-in-None-clause-ok c =
       right.1 ∙ block c.args.bytes.now found.result c.lay_core.new.out c.requires.room c.lay_core.ensures.laid,
     )
 
+read_again : (found v : Core) (bytes : List ℕ) (file : ℕ) (uuid : List ℕ) → found ≡ core_in bytes file uuid → IsCore v → length v.uuid ≡ UUID_BYTES
+    → v.ino ≡ FIRST_INODE + file → v.uuid ≡ uuid → bytes ≡ core_bytes v → found ≡ v
+read_again found v bytes file uuid held valid whole ino same is =
+    held ∙ ap (λ (xs : List ℕ). core_in xs file uuid) is ∙ ap (core_in (core_bytes v) file) (sym same) ∙ core_in-core_bytes v file valid whole ino
+
+pub returns-in-None-clause-complete : goal.returns-in-None-clause-complete
+returns-in-None-clause-complete c =
+    λ v valid ino uuid is. ap Ok (read_again c.read_core-found.result v c.args.bytes.now c.args.file.0 c.args.uuid.now c.read_core-found.ensures.held valid (ap length (uuid ∙ sym c.read_core-found.ensures.uuid) ∙ c.lay_core.ensures.whole) ino uuid is)
+
 pub returns-in-Some-clause-complete : goal.returns-in-Some-clause-complete
 returns-in-Some-clause-complete c =
     λ v valid ino uuid is.
-    let same = c.read_core-found.ensures.again v valid (ap length (uuid ∙ sym c.read_core-found.ensures.uuid) ∙ c.lay_core.ensures.whole) ino uuid is in
+    let same = read_again c.read_core-found.result v c.args.bytes.now c.args.file.0 c.args.uuid.now c.read_core-found.ensures.held valid (ap length (uuid ∙ sym c.read_core-found.ensures.uuid) ∙ c.lay_core.ensures.whole) ino uuid is in
     let clash =
     c.in-Some.ensures.right.1 (
       c.broken_range.ensures.none.1 (subst KeepsFilePool (sym same) valid.pool),
@@ -53,7 +64,7 @@ returns-in-Some-clause-field c =
     let Names : Core → Type 0 = λ (core : Core). NamesCoreField bytes core c.field_of.result in
     subst Names c.read_core-found.ensures.held (
       c.in-Some.place,
-      field_named CORE_BYTES CORE_SEAL CORE_FIELDS c.broken_range.result (IsCoreOutOfRange found) bytes c.lay_core.new.out (core_fields found)
+      field_named CORE_BYTES CORE_CRC CORE_FIELDS c.broken_range.result (IsCoreOutOfRange found) bytes c.lay_core.new.out (core_fields found)
           c.in-Some.place c.requires.room (omega arith) c.lay_core.ensures.laid broken c.in-Some.ensures.named,
       c.field_of.ensures.place,
     )

@@ -1,18 +1,19 @@
-use Rattle.std.proofs.Common.{◌≡◌, ◌-◌, ◌∙◌, List, ℕ, length, refl, sym, ap, subst, arith, rules, inl, inr}
+use Rattle.std.proofs.Common.{Ok, ◌≡◌, ◌-◌, ◌∙◌, List, ℕ, length, refl, sym, ap, subst, arith, rules, inl, inr}
 use Rattle.xr_base.specs.declared.address.GroupNo.{GroupNo}
-use Rattle.xr_base.specs.declared.geometry.TheConstants.{BLOCK_BYTES}
-use Rattle.xr_headers.specs.declared.layout.TheConstants.{BLOCK_SEAL, GROUP_BYTES}
+use Rattle.xr_base.specs.declared.geometry.TheConstants.{BLOCK_BYTES, UUID_BYTES}
+use Rattle.xr_headers.specs.declared.layout.TheConstants.{BLOCK_CRC, GROUP_BYTES}
 use Rattle.xr_headers.specs.declared.group_head.GroupHead.{GroupHead}
-use Rattle.xr_headers.specs.Headers.{group_block, group_fields, KeepsPool}
-use Rattle.xr_headers.specs.Padded.{IsLaid, with_crc, zero_padded}
+use Rattle.xr_headers.specs.Headers.{group_block, group_fields, group_in, IsGroupHead, KeepsPool}
+use Rattle.xr_headers.specs.Padded.{IsZeroPadded, with_crc, zero_padded}
+use Rattle.xr_headers.specs.HeaderValueLaws.{group_in-group_block}
 use Rattle.xr_headers.specs.FirstWrong.{IsGroupOutOfRange, NamesGroupField}
 use Rattle.xr_headers.proofs.FirstWrongLemmas.{Finds, field_named}
 use Rattle.xr_headers.specs.ChecksumLaws.{wanted_is}
 use Rattle.xr_headers.proofs.group_head.take_group.Goals as goal
 
-block : (bytes : List ℕ) (v : GroupHead) (wanted : List ℕ) → length bytes ≡ BLOCK_BYTES → IsLaid GROUP_BYTES GROUP_BYTES (group_fields v) wanted
+block : (bytes : List ℕ) (v : GroupHead) (wanted : List ℕ) → length bytes ≡ BLOCK_BYTES → IsZeroPadded GROUP_BYTES GROUP_BYTES (group_fields v) wanted
     → with_crc (length bytes - 4) (zero_padded (length bytes) wanted) ≡ group_block v
-block bytes v wanted long laid = wanted_is BLOCK_BYTES BLOCK_SEAL GROUP_BYTES bytes (group_fields v) wanted long (omega arith) (omega arith) laid
+block bytes v wanted long laid = wanted_is BLOCK_BYTES BLOCK_CRC GROUP_BYTES bytes (group_fields v) wanted long (omega arith) (omega arith) laid
 
 pub returns-in-None-clause-ok : goal.returns-in-None-clause-ok
 returns-in-None-clause-ok c =
@@ -31,10 +32,20 @@ returns-in-None-clause-ok c =
       right.1 ∙ block c.args.bytes.now found.result c.lay_group.new.out c.requires.room c.lay_group.ensures.laid,
     )
 
+read_again : (found v : GroupHead) (bytes : List ℕ) (group : GroupNo) (uuid : List ℕ) → found ≡ group_in bytes group uuid → IsGroupHead v
+    → length v.uuid ≡ UUID_BYTES → v.group ≡ group → v.uuid ≡ uuid → bytes ≡ group_block v → found ≡ v
+read_again found v bytes group uuid held valid whole number same is =
+    held ∙ ap (λ (xs : List ℕ). group_in xs group uuid) is ∙ ap (λ (g : GroupNo). group_in (group_block v) g uuid) (sym number)
+    ∙ ap (group_in (group_block v) v.group) (sym same) ∙ group_in-group_block v valid whole
+
+pub returns-in-None-clause-complete : goal.returns-in-None-clause-complete
+returns-in-None-clause-complete c =
+    λ v valid group uuid is. ap Ok (read_again c.read_group-found.result v c.args.bytes.now c.args.group c.args.uuid.now c.read_group-found.ensures.held valid (ap length (uuid ∙ sym c.read_group-found.ensures.uuid) ∙ c.lay_group.ensures.whole) group uuid is)
+
 pub returns-in-Some-clause-complete : goal.returns-in-Some-clause-complete
 returns-in-Some-clause-complete c =
     λ v valid group uuid is.
-    let same = c.read_group-found.ensures.again v valid (ap length (uuid ∙ sym c.read_group-found.ensures.uuid) ∙ c.lay_group.ensures.whole) group uuid is in
+    let same = read_again c.read_group-found.result v c.args.bytes.now c.args.group c.args.uuid.now c.read_group-found.ensures.held valid (ap length (uuid ∙ sym c.read_group-found.ensures.uuid) ∙ c.lay_group.ensures.whole) group uuid is in
     let clash =
     c.in-Some.ensures.right.1 (
       c.broken_range.ensures.none.1 (subst KeepsPool (sym same) valid.pool),
@@ -56,7 +67,7 @@ returns-in-Some-clause-field c =
     let Names : GroupHead → Type 0 = λ (head : GroupHead). NamesGroupField bytes head c.field_of.result in
     subst Names c.read_group-found.ensures.held (
       c.in-Some.place,
-      field_named BLOCK_BYTES BLOCK_SEAL GROUP_BYTES c.broken_range.result (IsGroupOutOfRange found) bytes c.lay_group.new.out (group_fields found)
+      field_named BLOCK_BYTES BLOCK_CRC GROUP_BYTES c.broken_range.result (IsGroupOutOfRange found) bytes c.lay_group.new.out (group_fields found)
           c.in-Some.place c.requires.room (omega arith) c.lay_group.ensures.laid broken c.in-Some.ensures.named,
       c.field_of.ensures.place,
     )

@@ -19,7 +19,7 @@ returns-in_err-kind-clause-refused c =
 pub returns-in-Ok-clause-ok : goal.returns-in-Ok-clause-ok
 returns-in-Ok-clause-ok c =
     let body = c.in-Ok.ensures in
-    (body.valid, item_from c.in-Ok.item c.in_ok-kind.kind c.args.region.now (record { below = λ (i : ℕ). let fits = c.type_inv.region i in omega arith }) c.in_ok-kind.ensures body)
+    (body.valid, item_from c.in-Ok.item c.in_ok-kind.kind c.args.region.now (λ (i : ℕ). let fits = c.type_inv.region i in omega arith) c.in_ok-kind.ensures body)
 
 pub returns-in-Ok-clause-complete : goal.returns-in-Ok-clause-complete
 returns-in-Ok-clause-complete c =

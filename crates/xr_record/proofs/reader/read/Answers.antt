@@ -1,8 +1,8 @@
 use Rattle.std.proofs.Common.{◌≡◌, subst, arith, take, drop, List, ℕ, option_to_list}
 use Rattle.std.proofs.lemmas.List.{length-drop, take-append-drop, take_all, take_rest}
 use Rattle.std.proofs.lemmas.Result.{err_from_is_err_and}
-use Rattle.xr_record.specs.Kept.{held_in}
-use Rattle.xr_record.specs.Reading.{FailsOn}
+use Rattle.xr_record.specs.ReaderFields.{reader_state}
+use Rattle.xr_record.specs.ReaderSteps.{FailsOn}
 use Rattle.xr_record.specs.OverlayLaws.{take-add}
 use Rattle.xr_record.proofs.StreamLemmas.{fails_more, takes_more}
 use Rattle.xr_record.proofs.reader.read.Goals as goal
@@ -14,8 +14,8 @@ returns-in_err-advance-clause-fault c =
     let piece = c.args.piece.now in
     let fault = c.in_err-advance.field-0.0 in
     rw (p.1, p.2)
-    (subst (λ (xs : List ℕ). FailsOn (held_in c.args.kept.now) xs fault) (take-append-drop done piece)
-    (fails_more _ (held_in c.loop-done.kept) (take done piece) (drop done piece) _ fault c.loop-done.invariant.reads (rw (take_rest piece done) at c.in_err-advance.ensures.fault)))
+    (subst (λ (xs : List ℕ). FailsOn (reader_state c.args.reader.now) xs fault) (take-append-drop done piece)
+    (fails_more _ (reader_state c.loop-done.reader) (take done piece) (drop done piece) _ fault c.loop-done.invariant.reads (rw (take_rest piece done) at c.in_err-advance.ensures.fault)))
 
 pub loop-done-preserved : goal.loop-done-preserved
 loop-done-preserved c =
@@ -25,10 +25,10 @@ loop-done-preserved c =
     let is = c.loop-done.invariant in
     let count = rw (take_rest piece done) at c.in_ok-advance.ensures.count in
     let taken = rw (take_rest piece done) at c.in_ok-advance.ensures.reads in
-    let more = takes_more (held_in c.args.kept.now) (held_in c.loop-done.kept) (held_in c.take_operation.new.kept) (take done piece) (take n (drop done piece))
+    let more = takes_more (reader_state c.args.reader.now) (reader_state c.loop-done.reader) (reader_state c.take_operation.new.reader) (take done piece) (take n (drop done piece))
     c.loop-done.entries.items (option_to_list c.in_ok-advance.advance.entry) is.reads taken in
     record {
-      kept = c.in_ok-advance.ensures.kept;
+      settled = c.in_ok-advance.ensures.settled;
       within = omega (arith, length-drop done piece, count.1, is.within);
       reads = rw (take-add done n piece, c.in_ok-push_entry.ensures) more;
     }

@@ -1,5 +1,5 @@
 use Rattle.std.proofs.Common.{◌≡◌, drop}
-use Rattle.xr_record.specs.Kept.{region_items}
+use Rattle.xr_record.specs.ReaderFields.{region_items}
 use Rattle.xr_record.specs.Stream.{are_items, items_from}
 use Rattle.xr_record.proofs.rules.are_items.Given as goal
 

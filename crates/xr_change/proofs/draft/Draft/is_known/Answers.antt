@@ -1,6 +1,7 @@
 use Rattle.std.proofs.Common.{subst}
-use Rattle.xr_change.proofs.SealLemmas.{known_sealed, overlay_known}
-use Rattle.xr_change.specs.Alters.{AreKnown}
+use Rattle.xr_change.proofs.SealLemmas.{known_sealed}
+use Rattle.xr_pool.specs.OverlayLaws.{overlay_known}
+use Rattle.xr_pool.specs.Overlay.{AreKnown}
 use Rattle.xr_change.proofs.draft.Draft.is_known.Goals as goal
 
 pub returns : goal.returns

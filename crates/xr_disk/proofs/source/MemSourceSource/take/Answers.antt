@@ -1,7 +1,7 @@
 -- What a source in memory gives stands at the front of what it had left.
 use Rattle.std.proofs.Common.{arith}
 use Rattle.std.proofs.lemmas.Grind.{common_steps}
-use Rattle.xr_disk.proofs.TakeLemmas.{takes_front}
+use Rattle.xr_disk.proofs.StreamLemmas.{takes_front}
 use Rattle.xr_disk.proofs.source.MemSourceSource.take.Goals as goal
 
 pub returns-clause-front : goal.returns-clause-front

@@ -1,5 +1,5 @@
 -- A record of the family may stand in the place of another, and the tree stays one.
-use Rattle.std.proofs.Common.{sym}
+use Rattle.std.proofs.Common.{sym, arith}
 use Rattle.xr_tree.proofs.GrowthLemmas.{may_replace, replaced_grown}
 use Rattle.xr_tree.proofs.growth.Grown.exchange.Goals as goal
 
@@ -14,5 +14,5 @@ invariant_of-self g c =
     let s = c.self.inside in
     let after = c.replace.new in
     replaced_grown g.R.Record.form g.met.R.Record.is_form g.R.Family.family s.over s.tree.block s.tree.level s.count s.spare c.self.invariant
-    after.over after.self.block after.self.level c.replace.ensures.step.tree c.replace.ensures.room c.in-Some.found c.args.new (sym c.if-is_member.ensures)
+    after.over after.self.block after.self.level c.replace.ensures.step.tree (omega (arith, c.replace.ensures.room)) c.in-Some.found c.args.new (sym c.if-is_member.ensures)
     c.replace.ensures.step.set
