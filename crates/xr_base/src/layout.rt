@@ -14,8 +14,23 @@ pub const RECORD_FORMAT: u32 = 1;
 /// `h_size`: the most bytes that a record's body has, as every header says.
 pub const MAX_BODY_BYTES: usize = 32_768;
 
-/// The place of `h_crc` in a record.
-pub const RECORD_CRC: usize = 32;
+/// The place of `h_lsn` in a record: a cycle and then a sector.
+pub const RECORD_LSN_PLACE: usize = 16;
+
+/// The place of `h_tail_lsn`.
+pub const RECORD_TAIL_PLACE: usize = 24;
+
+/// The place of `h_crc`. `h_prev_block` and `h_num_logops` follow.
+pub const RECORD_CRC_PLACE: usize = 32;
+
+/// The place of `h_fmt`.
+pub const RECORD_FORMAT_PLACE: usize = 300;
+
+/// The place of `h_fs_uuid`.
+pub const RECORD_UUID_PLACE: usize = 304;
+
+/// The place of `h_size`.
+pub const RECORD_SIZE_PLACE: usize = 320;
 
 /// `bb_magic`: how the blocks of a tree of free runs by block begin (`XFS_ABTB_CRC_MAGIC`).
 pub const BY_BLOCK_MAGIC: u32 = 0x4142_3342;

@@ -15,6 +15,7 @@ pub mod Leaf
 pub mod NodeEntries
 pub mod NodeEntryLaws
 pub mod PartLaws
+pub mod Refusals
 pub mod Rows
 pub mod SealLaws
 pub mod SharedPool

@@ -28,25 +28,25 @@ times_at [] k d within = absurd (omega (arith, within))
 times_at (x ∷ xs) zero d within = omega (arith, times_same x xs)
 times_at (x ∷ xs) (suc k) d within = omega (arith, times_at xs k d (omega (arith, within)), times_more (get_or xs k d) x xs)
 
-pub place_of : (xs : List ℕ) (n d : ℕ) → 1 ≤ times n xs → (k : ℕ) × (k < length xs) × (get_or xs k d ≡ n)
-place_of [] n d some = absurd (omega (arith, some))
-place_of (x ∷ xs) n d some = ⊎_elim
+pub place_among : (xs : List ℕ) (n d : ℕ) → 1 ≤ times n xs → (k : ℕ) × (k < length xs) × (get_or xs k d ≡ n)
+place_among [] n d some = absurd (omega (arith, some))
+place_among (x ∷ xs) n d some = ⊎_elim
     (λ (same : x ≡ n). (0, omega arith, same))
     (λ (other : x ≡ n → ⊥).
-    let found = place_of xs n d (omega (arith, some, times_other n x xs other)) in (suc found.0, omega (arith, found.1), found.2))
+    let found = place_among xs n d (omega (arith, some, times_other n x xs other)) in (suc found.0, omega (arith, found.1), found.2))
     (cases_eq x n)
 
 pub times_of : (xs : List ℕ) (n : ℕ) → Contains xs n → 1 ≤ times n xs
 times_of xs n found = subst (λ (m : ℕ). 1 ≤ times m xs) found.2 (times_at xs found.0 n found.1)
 
 pub found_in : (xs : List ℕ) (n : ℕ) → 1 ≤ times n xs → Contains xs n
-found_in xs n some = place_of xs n n some
+found_in xs n some = place_among xs n n some
 
 pub all_of : (P : ℕ → Type 0) (xs : List ℕ) → ((n : ℕ) → 1 ≤ times n xs → P n) → All P xs
 all_of P xs each k d within = each (get_or xs k d) (times_at xs k d within)
 
 pub each_of : (P : ℕ → Type 0) (xs : List ℕ) → All P xs → (n : ℕ) → 1 ≤ times n xs → P n
-each_of P xs all n some = let found = place_of xs n 0 some in subst P found.2 (all found.0 0 found.1)
+each_of P xs all n some = let found = place_among xs n 0 some in subst P found.2 (all found.0 0 found.1)
 
 -- no number stands twice
 pub distinct_of : (xs : List ℕ) → ((n : ℕ) → times n xs ≤ 1) → AllPairs (λ (m n : ℕ). m ≢ n) xs
@@ -66,7 +66,7 @@ once_of (x ∷ xs) pairs n =
     ⊎_elim
     (λ (none : times n xs ≡ 0). omega (arith, none, subst (λ (m : ℕ). times m (x ∷ xs) ≡ 1 + times m xs) same (times_same x xs)))
     (λ (some : times n xs ≡ 0 → ⊥).
-    let found = place_of xs n x (omega (arith, some)) in
+    let found = place_among xs n x (omega (arith, some)) in
     absurd (pairs 0 (suc found.0) x (omega arith) (omega (arith, found.1)) (same ∙ sym found.2)))
     (cases_eq (times n xs) 0))
     (λ (other : x ≡ n → ⊥). omega (arith, rest, times_other n x xs other))

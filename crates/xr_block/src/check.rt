@@ -1,7 +1,9 @@
 //! Whether a block is a leaf or a node of a tree: its header, its checksum, how many items it has, and the room after them.
-ghost use Rattle.std.specs.Prelude.{◌≡◌, ℕ, ◌+◌, ◌*◌, ◌-◌, ◌^◌, ◌<◌, ◌≤◌, ◌↔◌, length, replicate, IsTrue, IsOk, IfOk, IsSome};
+ghost use Rattle.std.specs.Prelude.{◌≡◌, ℕ, ◌+◌, ◌*◌, ◌-◌, ◌^◌, ◌<◌, ◌≤◌, ◌↔◌, length, replicate, IsTrue, IsOk, IfErr, IfOk, IsSome};
 ghost use Rattle.xr_base.specs.Image.{part};
 ghost use Rattle.xr_block.specs.Checks.{HasFields, HasRecords, HasZeroPadding, HasHeader, IsCheckedLeaf, IsCheckedNode};
+ghost use Rattle.xr_block.specs.Refusals.{RefusesCount, RefusesHeader, RefusesLeaf, RefusesNode};
+ghost use Rattle.xr_block.specs.declared.fault.TreeKind.TheVariants.{Field};
 ghost use Rattle.xr_kinds.specs.Form.{header_size, key_size, pointer_size};
 ghost use Rattle.xr_pool.specs.Overlay.{pool_size};
 ghost use Rattle.xr_block.specs.Tree.{site_of};
@@ -82,7 +84,8 @@ pub fn check_header<R: Record>(
     block: &Block,
 ) -> Result<(), TreeKind>
     requires { n < pool_size over.now }
-    ensures { IsOk result ↔ HasHeader R.form (site_of over.now) n level block.now }
+    ensures tests { IsOk result ↔ HasHeader R.form (site_of over.now) n level block.now }
+    ensures refused { IfErr result (RefusesHeader R.form (site_of over.now) n level block.now) }
 {
     if !holds(block, 0, &R::MAGIC.to_be_bytes()) {
         Err(TreeKind::Magic)
@@ -112,6 +115,7 @@ fn has_records<R: Record>(block: &Block, count: usize) -> bool
 fn count_within(block: &Block, least: usize, most: u32) -> Result<usize, TreeKind>
     ensures few { IsOk result ↔ (least ≤ count_in block.now) × (count_in block.now ≤ most) }
     ensures value { IfOk result (λ count. count ≡ count_in block.now) }
+    ensures refused { IfErr result (RefusesCount least most block.now) }
 {
     let count = count_of(block);
     if least <= count && count <= most as usize {
@@ -124,7 +128,8 @@ fn count_within(block: &Block, least: usize, most: u32) -> Result<usize, TreeKin
 /// Whether the places of a leaf hold valid records, and zeros stand after them.
 fn check_records<R: Record>(block: &Block, count: usize) -> Result<(), TreeKind>
     requires { count ≤ R.LEAF_MAX }
-    ensures { IsOk result ↔ HasRecords R.form count block.now }
+    ensures tests { IsOk result ↔ HasRecords R.form count block.now }
+    ensures refused { IfErr result (λ kind. kind ≡ Field) }
 {
     let end = header_size::<R>() + R::SIZE * count;
     if has_records::<R>(block, count) && are_zeros(&block[end..]) {
@@ -137,7 +142,8 @@ fn check_records<R: Record>(block: &Block, count: usize) -> Result<(), TreeKind>
 /// Whether zeros stand after the keys of a node and after its pointers.
 fn check_padding<R: Record>(block: &Block, count: usize) -> Result<(), TreeKind>
     requires { count ≤ R.NODE_MAX }
-    ensures { IsOk result ↔ HasZeroPadding R.form count block.now }
+    ensures tests { IsOk result ↔ HasZeroPadding R.form count block.now }
+    ensures refused { IfErr result (λ kind. kind ≡ Field) }
 {
     let key = R::LOW + R::HIGH;
     let keys = header_size::<R>();
@@ -159,6 +165,7 @@ pub fn check_leaf<R: Record>(
 ) -> Result<(), TreeKind>
     requires { n < pool_size over.now }
     ensures tests { IsOk result ↔ IsCheckedLeaf R.form (site_of over.now) least n block.now }
+    ensures refused { IfErr result (RefusesLeaf R.form (site_of over.now) least n block.now) }
 {
     check_header::<R>(over, n, 0, block)?;
     let count = count_within(block, least, R::LEAF_MAX)?;
@@ -175,6 +182,7 @@ pub fn check_node<R: Record>(
 ) -> Result<(), TreeKind>
     requires { n < pool_size over.now }
     ensures tests { IsOk result ↔ IsCheckedNode R.form (site_of over.now) least n level block.now }
+    ensures refused { IfErr result (RefusesNode R.form (site_of over.now) least n level block.now) }
 {
     check_header::<R>(over, n, level, block)?;
     let count = count_within(block, least, R::NODE_MAX)?;

@@ -58,8 +58,10 @@ fn remove_among<R: Record>(items: &mut [u8], k: usize, count: usize)
     requires few { count ≤ R.form.node_max }
     requires long { header_size R.form + length items.old ≡ 4096 }
     ensures { items.new
-        ≡ without_item (key_size R.form * k) (key_size R.form * count) (key_size R.form) (take (R.form.node_max * key_size R.form) items.old)
-        ++ without_item (pointer_size R.form * k) (pointer_size R.form * count) (pointer_size R.form) (drop (R.form.node_max * key_size R.form) items.old) }
+        ≡ without_item (key_size R.form * k) (key_size R.form * count) (key_size R.form)
+        (take (R.form.node_max * key_size R.form) items.old)
+        ++ without_item (pointer_size R.form * k) (pointer_size R.form * count) (pointer_size R.form)
+        (drop (R.form.node_max * key_size R.form) items.old) }
 {
     let size = key_bytes::<R>();
     let pointer = pointer_bytes::<R>();

@@ -12,12 +12,12 @@ use crate::read::{checked_record, count_of, key_at};
 use xr_kinds::Record;
 use xr_pool::Block;
 
-/// Bytes that a key fits in: a node has room for four of them, and they are all of its block then.
-pub const KEY_ROOM: usize = 1024;
+/// Bytes that a key fits in: a node has room for sixteen of them, and they are all of its block then.
+pub const KEY_ROOM: usize = 256;
 
 /// A key has room.
 pub fn key_fits<R: Record>()
-    ensures { key_size R.form ≤ 1024 }
+    ensures { key_size R.form ≤ KEY_ROOM }
 {}
 
 /// Whether a key is less than another one, byte by byte.

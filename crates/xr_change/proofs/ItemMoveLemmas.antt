@@ -14,7 +14,7 @@ use Rattle.xr_change.proofs.RowItemLemmas.{Gathers, block_holds, block_key, bloc
 use Rattle.xr_change.proofs.SiblingLemmas.{links_read, whole_moved}
 use Rattle.xr_change.proofs.WriteLemmas.{for_one, for_two, one_beside, writes_then}
 use Rattle.xr_change.specs.Draft.{ReadsAs}
-use Rattle.xr_change.specs.Regroups.{MovesItems, GivesKey, IsBlockOf, IsBetweenSiblings, HasNewLeft, Item, items_in, place_named}
+use Rattle.xr_change.specs.Regroups.{MovesItems, GivesKey, IsBlockOf, IsBetweenSiblings, HasNewLeft, Item, items_held, place_named}
 use Rattle.xr_change.specs.Paths.{item_count, max_records}
 use Rattle.xr_change.specs.Writes.{Writes}
 use Rattle.xr_block.specs.EditLaws.{first_stretch, last_stretch, other_stretch, whole_stretch}
@@ -52,7 +52,7 @@ module _ {X : Type 0} (form : Form X) (laws : IsForm form) (a : Blocks) (known :
   Of = IsBlockOf form level (site_of a)
 
   abbrev items_of : ℕ → List (Item X level)
-  items_of c = items_in form level (block_at a c)
+  items_of c = items_held form level (block_at a c)
 
   placed_block : (c : ℕ) → IsBetweenSiblings form a level c → Of (place_named form a level c) (items_of c) (block_at a c)
   placed_block c placed = block_whole form laws a level (min_records form level) (place_named form a level c) known.identified (known.whole c placed.below) placed.whole
@@ -85,7 +85,7 @@ module _ {X : Type 0} (form : Form X) (laws : IsForm form) (a : Blocks) (known :
       (sym links.0, sym links.1)
 
   module _ {z : Blocks} {place : Place} {items : List (Item X level)} (moved : IsDealt form a level z place items) where
-    dealt_items : items_in form level (block_at z place.number) ≡ items
+    dealt_items : items_held form level (block_at z place.number) ≡ items
     dealt_items = (block_holds form laws level (site_of a) place items (block_at z place.number) moved.of).0
 
     dealt_key : GivesKey form level (block_at z place.number)
@@ -145,7 +145,7 @@ module _ {X : Type 0} (form : Form X) (laws : IsForm form) (a : Blocks) (known :
           linked = λ left right was.
               let links = links_of c placed left right was.0 in (dealt_at front left (Some m) links.0 refl, (dealt_at rest (Some c) right refl links.1, tt));
           keyed = for_two (λ (x : ℕ). GivesKey form level (block_at z x)) c m (dealt_key front) (dealt_key rest);
-          items = two_flat (λ (x : ℕ). items_in form level (block_at z x)) c m
+          items = two_flat (λ (x : ℕ). items_held form level (block_at z x)) c m
               ∙ rw (dealt_items front, dealt_items rest) (take-append-drop h xs ∙ sym (one_flat items_of c));
           next = λ q right.
               relinked_between form a d z q c m (one_beside b d m second q (beside q right) ∙ one_beside a b c first q (placed.right_apart q right))
@@ -190,7 +190,7 @@ module _ {X : Type 0} (form : Form X) (laws : IsForm form) (a : Blocks) (known :
                 let one = links_of c placed left (Some d) was.0 in
                 let two = links_of d after (Some c) right was.1.0 in (dealt_at front left (Some d) one.0 one.1, (dealt_at rest (Some c) right two.0 two.1, tt));
             keyed = for_two (λ (x : ℕ). GivesKey form level (block_at z x)) c d (dealt_key front) (dealt_key rest);
-            items = two_flat (λ (x : ℕ). items_in form level (block_at z x)) c d
+            items = two_flat (λ (x : ℕ). items_held form level (block_at z x)) c d
                 ∙ rw (dealt_items front, dealt_items rest) (take-append-drop count joined ∙ sym (two_flat items_of c d));
             next = λ q right place count items at left block.
                 one_beside b z d second q (after.right_apart q right) ∙ one_beside a b c first q (beside q right) ∙ block
@@ -217,6 +217,6 @@ module _ {X : Type 0} (form : Form X) (laws : IsForm form) (a : Blocks) (known :
               let one = links_of c placed left (Some d) was.0 in
               let two = links_of d after (Some c) right was.1.0 in (dealt_at all left right one.0 two.1, tt);
           keyed = for_one (λ (x : ℕ). GivesKey form level (block_at z x)) c (dealt_key all);
-          items = one_flat (λ (x : ℕ). items_in form level (block_at z x)) c ∙ dealt_items all ∙ sym (two_flat items_of c d);
+          items = one_flat (λ (x : ℕ). items_held form level (block_at z x)) c ∙ dealt_items all ∙ sym (two_flat items_of c d);
           next = λ q right. relinked_between form a b z q d c (one_beside a b c first q (beside q right)) first.same.site (linked q d right);
         }

@@ -14,7 +14,7 @@ use Rattle.xr_change.proofs.SiblingLemmas.{right_read}
 use Rattle.xr_change.proofs.RowBlockLemmas.{below, children, same_or_other}
 use Rattle.xr_change.proofs.WriteLemmas.{times_is}
 use Rattle.xr_change.specs.Alters.{AreRowsIn, IsWholeAt}
-use Rattle.xr_change.specs.Regroups.{blocks_below}
+use Rattle.xr_change.specs.Regroups.{rows_below}
 use Rattle.xr_block.specs.Checks.{right_in}
 
 pub is_some_of : (o : Option ℕ) (m : ℕ) → (o ≡ Some m) ⊎ (o ≡ Some m → ⊥)
@@ -114,7 +114,7 @@ module _ {X : Type 0} (form : Form X) (b : Blocks) (level : ℕ) (pre old post :
   P = IsWholeAt form (site_of b) (tree_held form b) level (min_records form level)
 
   pub counted : (m : ℕ) → times m (blocks_of form b level (pre ++ (old ++ post)))
-      ≡ (times m pre + (times m old + times m post)) + times m (blocks_below form b level (pre ++ (old ++ post)))
+      ≡ (times m pre + (times m old + times m post)) + times m (rows_below form b level (pre ++ (old ++ post)))
   counted m = omega (arith, times_rows form b m level (pre ++ (old ++ post)), times-append m pre (old ++ post), times-append m old post)
 
   pub row_parts : AreLinked P (block_at b) level None pre (first_of (old ++ post) None)

@@ -18,7 +18,7 @@ use Rattle.xr_change.proofs.DescentLemmas.{child_in_rows, row_around}
 use Rattle.xr_change.proofs.RowBlockLemmas.{below, children, times_below, times_row}
 use Rattle.xr_change.proofs.WriteLemmas.{two_around}
 use Rattle.xr_change.specs.Alters.{AreRowsIn, IsWholeAt}
-use Rattle.xr_change.specs.Regroups.{IsBlockOf, IsBetweenSiblings, blocks_below, items_in, place_named}
+use Rattle.xr_change.specs.Regroups.{IsBlockOf, IsBetweenSiblings, rows_below, items_held, place_named}
 use Rattle.xr_change.specs.Paths.{IsInTree, IsChildAt, child_of}
 use Rattle.xr_block.specs.Edits.{IsNodeOf}
 use Rattle.xr_block.specs.DescentLaws.{node_few}
@@ -95,13 +95,13 @@ module _ {X : Type 0} (form : Form X) (laws : IsForm form) (a : Blocks) (level n
     kth_used = at.rows.owned n (omega (arith, row_has n n at.pre at.post refl, times_row form a n (suc level) (at.pre ++ n ∷ at.post)))
 
     pub kth_node : IsNodeOf form (site_of a) (place_named form a (suc level) n) (entries_in form (block_at a n)) (block_at a n)
-    unfolding IsBlockOf items_in
+    unfolding IsBlockOf items_held
     kth_node =
         block_whole form laws a (suc level) at.least (place_named form a (suc level) n) kth.known.identified (kth.known.whole n kth_used.below)
         (row_whole form laws a kth.known at.least (suc level) (at.pre ++ n ∷ at.post) at.rows n (row_has n n at.pre at.post refl))
 
     here : (m : ℕ) → times m (blocks_of form a level (left ++ ((c ∷ []) ++ right))) ≡ (times m left + (times m (c ∷ []) + times m right)) + times m
-        (blocks_below form a level (left ++ ((c ∷ []) ++ right)))
+        (rows_below form a level (left ++ ((c ∷ []) ++ right)))
     here = counted form a level left (c ∷ []) right rows_here
 
     -- the node stands in no row of its children's

@@ -23,7 +23,7 @@ use Rattle.xr_change.proofs.ParentLemmas.{ArePair, IsChild, apart_from, kth_chil
 use Rattle.xr_change.proofs.RegroupLemmas.{Moves, moves_below, moves_records, moves_takes}
 use Rattle.xr_change.proofs.RowBlockLemmas.{children, holds_same, times_parts}
 use Rattle.xr_change.proofs.WriteLemmas.{for_one, for_two, next_few, one_around, one_beside, set_around, set_then, taken_count, two_once, unchanged_less, unmarked_few, writes_again, written_only}
-use Rattle.xr_change.specs.Regroups.{MovesItems, GivesKey, IsBetweenSiblings, Regroups, entry_for, items_in, place_named}
+use Rattle.xr_change.specs.Regroups.{MovesItems, GivesKey, IsBetweenSiblings, Regroups, entry_for, items_held, place_named}
 use Rattle.xr_change.specs.Paths.{IsChildAt, child_of, item_count, max_records}
 use Rattle.xr_change.specs.Writes.{MarksAtMost, Writes, unchanged}
 use Rattle.xr_block.specs.Edits.{IsNodeOf, with_key}
@@ -296,7 +296,7 @@ module _ {X : Type 0} {form : Form X} (laws : IsForm form) {a : Blocks} {level n
           ∙ rw (next_place, later rebalance_moves w edits d there) (set_then (λ (entries : List Entry) (i : ℕ). set entries i second) (λ z zs i. refl) es k first kth.within
           ∙ ap (λ (rest : List Entry). take k es ++ first ∷ rest) (set_around (drop (suc k) es) 0 second (omega (arith, within, length-drop (suc k) es)) ∙ rw after_both refl))) in
           let same : item_count form z level c ≡ count =
-          items_counted form z level c ∙ ap (λ (bytes : List ℕ). length (items_in form level bytes)) (one_beside b z n (over rebalance_moves w edits v) c pair.first.apart)
+          items_counted form z level c ∙ ap (λ (bytes : List ℕ). length (items_held form level bytes)) (one_beside b z n (over rebalance_moves w edits v) c pair.first.apart)
           ∙ sym (items_counted form b level c) ∙ counted in (
             subst (λ (y : ℕ). Regroups form a z level n k (k + 2) (child_of form a n k ∷ y ∷ []) (child_of form a n k ∷ y ∷ [])) kth_next.is all.0,
             subst (λ (x : ℕ). item_count form z level x ≡ count) kth.is same,

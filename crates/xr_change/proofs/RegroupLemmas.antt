@@ -14,7 +14,7 @@ use Rattle.xr_change.proofs.NodeChangeLemmas.{whole_with_left}
 use Rattle.xr_change.proofs.RowBlockLemmas.{holds_same, times_row}
 use Rattle.xr_block.specs.TimesLaws.{times-append}
 use Rattle.xr_change.specs.Alters.{AreRowsIn, HoldsSame, IsSamePool, IsUntouched, IsWholeAt, Takes}
-use Rattle.xr_change.specs.Regroups.{GivesKey, HaveSameItems, HasNewLeft, StayLinked, blocks_below}
+use Rattle.xr_change.specs.Regroups.{GivesKey, HaveSameItems, HasNewLeft, StayLinked, rows_below}
 use Rattle.xr_change.specs.Writes.{MarksAtMost}
 use Rattle.xr_block.specs.Checks.{right_in}
 
@@ -64,7 +64,7 @@ module _ {X : Type 0} {form : Form X} (laws : IsForm form) {before after : Block
     abbrev row_now : List ℕ
     row_now = left ++ (new ++ right)
 
-    here : (m : ℕ) → times m (blocks_of form before level row) ≡ (times m left + (times m old + times m right)) + times m (blocks_below form before level row)
+    here : (m : ℕ) → times m (blocks_of form before level row) ≡ (times m left + (times m old + times m right)) + times m (rows_below form before level row)
     here = counted form before level left old right rows
 
     right_of_old : right_in form (block_at before r.last) ≡ first_of right None
@@ -87,17 +87,17 @@ module _ {X : Type 0} {form : Form X} (laws : IsForm form) {before after : Block
         (λ (beside : right_in form (block_at before r.last) ≡ Some m → ⊥). holds_same form before after m (r.others m without (not_new m used without) beside).bytes)
         (is_some_of (right_in form (block_at before r.last)) m)
 
-    apart : (m : ℕ) → 1 ≤ times m left + (times m right + times m (blocks_below form before level row)) → (is_free before m ≡ false) × (times m old ≡ 0)
+    apart : (m : ℕ) → 1 ≤ times m left + (times m right + times m (rows_below form before level row)) → (is_free before m ≡ false) × (times m old ≡ 0)
     apart m some = ((rows.owned m (omega (arith, some, here m))).taken, omega (arith, some, here m, rows.once m))
 
     untouched : (m : ℕ) → is_free before m ≡ false → times m old ≡ 0 → (first_of right None ≡ Some m → ⊥) → IsUntouched before after m
     untouched m used without beside = r.others m without (not_new m used without) (λ is. beside (sym right_of_old ∙ is))
 
-    stays : (m : ℕ) → 1 ≤ times m left + times m (blocks_below form before level row) → block_at after m ≡ block_at before m
+    stays : (m : ℕ) → 1 ≤ times m left + times m (rows_below form before level row) → block_at after m ≡ block_at before m
     stays m some =
         let out = apart m (omega (arith, some)) in (untouched m out.0 out.1 (λ is. absurd (omega (arith, some, first_within right m is, here m, rows.once m)))).bytes
 
-    below_stays : (m : ℕ) → 1 ≤ times m (blocks_below form before level row) → block_at after m ≡ block_at before m
+    below_stays : (m : ℕ) → 1 ≤ times m (rows_below form before level row) → block_at after m ≡ block_at before m
     below_stays m some = stays m (omega (arith, some))
 
     hold_beside : (m : ℕ) → 1 ≤ times m left + times m right → HoldsSame form before after m
@@ -162,7 +162,7 @@ module _ {X : Type 0} {form : Form X} (laws : IsForm form) {before after : Block
     }
 
     -- what stands below them stays
-    pub moves_below : (m : ℕ) → 1 ≤ times m (blocks_below form before level old) → block_at after m ≡ block_at before m
+    pub moves_below : (m : ℕ) → 1 ≤ times m (rows_below form before level old) → block_at after m ≡ block_at before m
     moves_below m some = below_stays m (omega (arith, some, times_rest_append form before m level left (old ++ right), times_rest_append form before m level old right))
 
     pub moves_records : records_of form after level new ≡ records_of form before level old

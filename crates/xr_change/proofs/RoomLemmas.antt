@@ -15,7 +15,7 @@ use Rattle.xr_change.proofs.BlockInTreeLemmas.{is_under}
 use Rattle.xr_change.proofs.NodeChangeLemmas.{after_same, child_after, front_long, front_same, long_after, names_after, regroups_same}
 use Rattle.xr_change.proofs.WriteLemmas.{unchanged_less}
 use Rattle.xr_change.proofs.RowBlockLemmas.{records_same, times_below, times_under}
-use Rattle.xr_change.specs.Regroups.{IsSameUnder, Regroups, items_in}
+use Rattle.xr_change.specs.Regroups.{IsSameUnder, Regroups, items_held}
 use Rattle.xr_change.specs.Changes.{HasPathWithRoom}
 use Rattle.xr_change.specs.Sets.{inserted}
 use Rattle.xr_change.specs.Paths.{IsInTree, IsOnPath, child_of, full_on_path, is_full, item_count, max_records, path_index}
@@ -44,8 +44,8 @@ module _ {X : Type 0} {form : Form X} (laws : IsForm form) {a s : Blocks} {level
   after = drop (k + 1) cs
 
   -- the items of both halves are those of the block that was split
-  joined : items_in form level (block_at s c) ++ items_in form level (block_at s m) ≡ items_in form level (block_at a c)
-  joined = sym (two_flat (λ (x : ℕ). items_in form level (block_at s x)) c m) ∙ split.items ∙ one_flat (λ (x : ℕ). items_in form level (block_at a x)) c
+  joined : items_held form level (block_at s c) ++ items_held form level (block_at s m) ≡ items_held form level (block_at a c)
+  joined = sym (two_flat (λ (x : ℕ). items_held form level (block_at s x)) c m) ∙ split.items ∙ one_flat (λ (x : ℕ). items_held form level (block_at a x)) c
 
   items_add : item_count form s level c + item_count form s level m ≡ item_count form a level c
   items_add = omega (arith, counts_same form a s level (c ∷ []) (c ∷ m ∷ []) split.items)
@@ -122,7 +122,7 @@ module _ {X : Type 0} {form : Form X} (laws : IsForm form) {a s : Blocks} {level
   place b x = path_index form r (entries_in form (block_at b x))
 
   both : entries_in form (block_at s p) ++ entries_in form (block_at s m) ≡ entries_in form (block_at a p)
-  unfolding items_in
+  unfolding items_held
   both = joined laws here inside split
 
   some : (1 ≤ length (entries_in form (block_at s p))) × (1 ≤ length (entries_in form (block_at s m)))

@@ -14,7 +14,7 @@ use Rattle.xr_change.proofs.SiblingLemmas.{links_read, whole_moved}
 use Rattle.xr_change.proofs.NodeContextLemmas.{linked_stays}
 use Rattle.xr_change.proofs.RowBlockLemmas.{times_row, holds_same, key_same}
 use Rattle.xr_change.specs.Alters.{AreRowsIn, IsWholeAt}
-use Rattle.xr_change.specs.Regroups.{place_named, GivesKey, HaveSameItems, IsBlockOf, Item, entry_for, items_in}
+use Rattle.xr_change.specs.Regroups.{place_named, GivesKey, HaveSameItems, IsBlockOf, Item, entry_for, items_held}
 use Rattle.xr_change.specs.Paths.{child_of, item_count, max_records}
 use Rattle.xr_block.specs.EditLaws.{holds_records, leaf_count, leaf_of_whole, leaf_records, node_count, node_entries, node_of_whole}
 use Rattle.xr_block.specs.Edits.{IsLeafOf, IsNodeOf}
@@ -84,8 +84,8 @@ module _ {X : Type 0} (form : Form X) where
   key_by (suc level) n at bytes key is leaf node =
       node (λ low. absurd (omega (arith, low))) ∙ ap (λ (block : List ℕ). key_of_entries form (entries_in form block)) (sym is)
 
-  pub items_counted : (b : Blocks) (level n : ℕ) → item_count form b level n ≡ length (items_in form level (block_at b n))
-  unfolding items_in
+  pub items_counted : (b : Blocks) (level n : ℕ) → item_count form b level n ≡ length (items_held form level (block_at b n))
+  unfolding items_held
   items_counted b zero n = refl
   items_counted b (suc level) n = refl
 
@@ -93,13 +93,13 @@ module _ {X : Type 0} (form : Form X) where
   item_counts b level [] = 0
   item_counts b level (m ∷ ms) = item_count form b level m + item_counts b level ms
 
-  counts_flat : (b : Blocks) (level : ℕ) (ms : List ℕ) → length (flat_map (λ (m : ℕ). items_in form level (block_at b m)) ms) ≡ item_counts b level ms
+  counts_flat : (b : Blocks) (level : ℕ) (ms : List ℕ) → length (flat_map (λ (m : ℕ). items_held form level (block_at b m)) ms) ≡ item_counts b level ms
   counts_flat b level [] = refl
   counts_flat b level (m ∷ ms) = omega (
     arith,
     counts_flat b level ms,
     items_counted b level m,
-    length-append (items_in form level (block_at b m)) (flat_map (λ (x : ℕ). items_in form level (block_at b x)) ms),
+    length-append (items_held form level (block_at b m)) (flat_map (λ (x : ℕ). items_held form level (block_at b x)) ms),
   )
 
   -- blocks with the same items have as many
@@ -115,8 +115,8 @@ module _ {X : Type 0} (form : Form X) where
 module _ {X : Type 0} (form : Form X) (laws : IsForm form) where
   -- what such a block holds, how many items it has, and what is tested of a leaf
   pub block_holds : (level : ℕ) (site : Site) (place : Place) (items : List (Item X level)) (bytes : List ℕ) → IsBlockOf form level site place items bytes
-      → (items_in form level bytes ≡ items) × (count_in bytes ≡ length items) × (length items ≤ max_records form level) × (level ≡ 0 → HoldsRecords form bytes)
-  unfolding IsBlockOf items_in
+      → (items_held form level bytes ≡ items) × (count_in bytes ≡ length items) × (length items ≤ max_records form level) × (level ≡ 0 → HoldsRecords form bytes)
+  unfolding IsBlockOf items_held
   block_holds zero site place items bytes is =
       (leaf_records form laws site place bytes items is, leaf_count form laws site place bytes items is, is.few, λ low. holds_records form laws site place bytes items is)
   block_holds (suc level) site place items bytes is =
@@ -130,8 +130,8 @@ module _ {X : Type 0} (form : Form X) (laws : IsForm form) where
 
   pub block_whole : (b : Blocks) (level least : ℕ) (place : Place) → length b.uuid ≡ 16 → IsBlock (block_at b place.number)
       → IsWholeAt form (site_of b) (tree_held form b) level least place (block_at b place.number)
-      → IsBlockOf form level (site_of b) place (items_in form level (block_at b place.number)) (block_at b place.number)
-  unfolding IsBlockOf IsWholeAt items_in
+      → IsBlockOf form level (site_of b) place (items_held form level (block_at b place.number)) (block_at b place.number)
+  unfolding IsBlockOf IsWholeAt items_held
   block_whole b zero least place identified block whole =
       leaf_of_whole form laws (site_of b) place (block_at b place.number) least identified block.long block.are_bytes whole
   block_whole b (suc level) least place identified block whole =

@@ -12,7 +12,7 @@ use Rattle.xr_block.specs.Tree.{blocks_of, records_of, tree_held}
 use Rattle.xr_block.specs.TreeBlock.{Entry, Place, Site}
 use Rattle.xr_block.specs.TimesLaws.{times_of, times-append}
 use Rattle.xr_change.specs.Alters.{HoldsSame, IsWholeAt}
-use Rattle.xr_change.specs.Regroups.{HaveSameItems, blocks_below, items_in}
+use Rattle.xr_change.specs.Regroups.{HaveSameItems, rows_below, items_held}
 use Rattle.xr_change.proofs.RowBlockLemmas.{blocks_same, children, holds_same, key_same, records_same, times_below, times_blocks_append, times_leaves, times_row}
 use Rattle.xr_block.specs.PartLaws.{all_left, all_right}
 use Rattle.xr_block.specs.UnderLaws.{same_each}
@@ -58,12 +58,12 @@ keys_stay form held held' level es same all k d within =
     all k d within ∙ sym (same e.child (times_of (map child es) e.child (k, omega (arith, within, length-map es child), get_or-map child es k d e.child within)))
 
 pub times_rows : {X : Type 0} (form : Form X) (b : Blocks) (m level : ℕ) (row : List ℕ)
-    → times m (blocks_of form b level row) ≡ times m row + times m (blocks_below form b level row)
+    → times m (blocks_of form b level row) ≡ times m row + times m (rows_below form b level row)
 times_rows form b m zero row = omega (arith, times_leaves form b m row)
 times_rows form b m (suc level) row = times_below form b m level row
 
 pub times_rest_append : {X : Type 0} (form : Form X) (b : Blocks) (m level : ℕ) (xs ys : List ℕ)
-    → times m (blocks_below form b level (xs ++ ys)) ≡ times m (blocks_below form b level xs) + times m (blocks_below form b level ys)
+    → times m (rows_below form b level (xs ++ ys)) ≡ times m (rows_below form b level xs) + times m (rows_below form b level ys)
 times_rest_append {X = X} form b m level xs ys = omega (arith, times_rows {X = X}, times_blocks_append form b m level xs ys, times-append)
 
 -- the first row of some is linked
@@ -75,20 +75,20 @@ row_linked form site at held least (suc level) row rows = rows.0
 
 -- the same items
 module _ {X : Type 0} (form : Form X) (before after : Blocks) where
-  pub item_same : (level m : ℕ) → HoldsSame form before after m → items_in form level (block_at after m) ≡ items_in form level (block_at before m)
-  unfolding items_in
+  pub item_same : (level m : ℕ) → HoldsSame form before after m → items_held form level (block_at after m) ≡ items_held form level (block_at before m)
+  unfolding items_held
   item_same zero m same = same.same_records
   item_same (suc level) m same = same.same_entries
 
   pub items_append : (level : ℕ) (xs ys xs' ys' : List ℕ) → HaveSameItems form before after level xs xs' → HaveSameItems form before after level ys ys'
       → HaveSameItems form before after level (xs ++ ys) (xs' ++ ys')
   items_append level xs ys xs' ys' front rest =
-      flat_map-append (λ (m : ℕ). items_in form level (block_at after m)) xs' ys' ∙ rw (front, rest)
-      (sym (flat_map-append (λ (m : ℕ). items_in form level (block_at before m)) xs ys))
+      flat_map-append (λ (m : ℕ). items_held form level (block_at after m)) xs' ys' ∙ rw (front, rest)
+      (sym (flat_map-append (λ (m : ℕ). items_held form level (block_at before m)) xs ys))
 
   pub items_same : (level : ℕ) (row : List ℕ) → ((m : ℕ) → 1 ≤ times m row → HoldsSame form before after m) → HaveSameItems form before after level row row
   items_same level row same =
-      flat_map_same (λ (m : ℕ). items_in form level (block_at after m)) (λ (m : ℕ). items_in form level (block_at before m)) row
+      flat_map_same (λ (m : ℕ). items_held form level (block_at after m)) (λ (m : ℕ). items_held form level (block_at before m)) row
       (λ m within. item_same level m (same m (times_of row m within)))
 
   pub whole_same : (site : Site) (least level : ℕ) (place : Place) → block_at after place.number ≡ block_at before place.number
@@ -100,32 +100,32 @@ module _ {X : Type 0} (form : Form X) (before after : Blocks) where
 
   module _ (row row' : List ℕ) where
     below_same : (level : ℕ) → HaveSameItems form before after (suc level) row row' → children form after row' ≡ children form before row
-    unfolding items_in
+    unfolding items_held
     below_same level items =
         named_flat (tree_held form after) row' ∙ ap (map (λ (e : Entry). e.child)) items ∙ sym (named_flat (tree_held form before) row)
 
     -- the rows below stay, and so do all records
     pub rest_regrouped : (level : ℕ) → HaveSameItems form before after level row row'
-        → ((m : ℕ) → 1 ≤ times m (blocks_below form before level row) → block_at after m ≡ block_at before m)
-        → blocks_below form after level row' ≡ blocks_below form before level row
+        → ((m : ℕ) → 1 ≤ times m (rows_below form before level row) → block_at after m ≡ block_at before m)
+        → rows_below form after level row' ≡ rows_below form before level row
     rest_regrouped zero items same = refl
     rest_regrouped (suc level) items same =
         rw (below_same level items) (blocks_same form before after level (children form before row) (λ m some. holds_same form before after m (same m some)))
 
     pub records_regrouped : (level : ℕ) → HaveSameItems form before after level row row'
-        → ((m : ℕ) → 1 ≤ times m (blocks_below form before level row) → block_at after m ≡ block_at before m)
+        → ((m : ℕ) → 1 ≤ times m (rows_below form before level row) → block_at after m ≡ block_at before m)
         → records_of form after level row' ≡ records_of form before level row
-    unfolding items_in leaves_from
+    unfolding items_held leaves_from
     records_regrouped zero items same = items
     records_regrouped (suc level) items same =
         rw (below_same level items) (records_same form before after level (children form before row) (λ m some. holds_same form before after m (same m some)))
 
     pub rows_regrouped : (site : Site) (least level : ℕ) → HaveSameItems form before after level row row'
-        → ((m : ℕ) → 1 ≤ times m (blocks_below form before level row) → block_at after m ≡ block_at before m)
+        → ((m : ℕ) → 1 ≤ times m (rows_below form before level row) → block_at after m ≡ block_at before m)
         → AreLinked (IsWholeAt form site (tree_held form after) level least) (block_at after) level None row' None
         → AreRowsOf form site (block_at before) (tree_held form before) least level row
         → AreRowsOf form site (block_at after) (tree_held form after) least level row'
-    unfolding AreRowsOf IsWholeAt items_in
+    unfolding AreRowsOf IsWholeAt items_held
     rows_regrouped site least zero items same linked rows = linked
     rows_regrouped site least (suc level) items same linked rows = (
       linked,

@@ -17,7 +17,7 @@ use Rattle.xr_change.proofs.RowBlockLemmas.{alters_takes, times_row, alters_then
 use Rattle.xr_change.proofs.WriteLemmas.{set_around, same_count, unchanged_less}
 use Rattle.xr_change.specs.Alters.{AreRowsIn, Takes}
 use Rattle.xr_change.specs.Changes.{Changes, HasPathWithRoom, HasPathWithSurplus, HasPath, Inserts, MayUpdateKey, Removes, Replaces}
-use Rattle.xr_change.specs.Regroups.{HoldsNow, GivesKey, NamesChildren, entry_for, items_in, place_named}
+use Rattle.xr_change.specs.Regroups.{HoldsNow, GivesKey, NamesChildren, entry_for, items_held, place_named}
 use Rattle.xr_change.specs.Sets.{inserted, removed, replaced}
 use Rattle.xr_change.specs.Paths.{IsInTree, IsChildAt, child_of, full_on_path, item_count}
 use Rattle.xr_change.specs.Writes.{WritesOnly, MarksAtMost, unchanged, unmarked}
@@ -78,7 +78,7 @@ module _ {X : Type 0} (form : Form X) where
   row_keyed laws b known level pre c post rows =
       let whole = row_whole form laws b known (min_records form level) level (pre ++ c ∷ post) rows c (row_has c c pre post refl) in
       let place : Place = place_named form b level c in
-      block_key form laws level (site_of b) place (items_in form level (block_at b c)) (block_at b c)
+      block_key form laws level (site_of b) place (items_held form level (block_at b c)) (block_at b c)
       (block_whole form laws b level (min_records form level) place known.identified (known.whole c (row_below b (min_records form level) level pre c post rows)) whole)
       (omega (arith, items_counted form b level c, whole_least form b level (min_records form level) place whole, min_records_some form laws level))
 

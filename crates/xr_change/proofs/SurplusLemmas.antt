@@ -19,7 +19,7 @@ use Rattle.xr_change.proofs.BlockInTreeLemmas.{in_row, leaf_alone}
 use Rattle.xr_change.proofs.NodeChangeLemmas.{child_after, long_after, regroups_same}
 use Rattle.xr_change.proofs.WriteLemmas.{for_two, more_free, unchanged_less}
 use Rattle.xr_change.proofs.RowBlockLemmas.{HoldSame, children, records_append, records_below, records_same, times_row, same_or_other}
-use Rattle.xr_change.specs.Regroups.{Item, Regroups, blocks_below, items_in}
+use Rattle.xr_change.specs.Regroups.{Item, Regroups, rows_below, items_held}
 use Rattle.xr_change.specs.Changes.{HasPathWithSurplus}
 use Rattle.xr_change.specs.Sets.{removed}
 use Rattle.xr_change.specs.Paths.{IsInTree, child_of, item_count}
@@ -45,9 +45,9 @@ among whole front part after r is there =
 
 -- what stands under a block stands under one that has its items among others
 kept_under : {X : Type 0} (form : Form X) (a s : Blocks) (level x y : ℕ) (front after : List (Item X level))
-    → items_in form level (block_at s y) ≡ front ++ (items_in form level (block_at a x) ++ after) → HoldSame form a s (blocks_below form a level (x ∷ []))
+    → items_held form level (block_at s y) ≡ front ++ (items_held form level (block_at a x) ++ after) → HoldSame form a s (rows_below form a level (x ∷ []))
     → (r : X) → Contains (records_of form a level (x ∷ [])) r → Contains (records_of form s level (y ∷ [])) r
-unfolding items_in
+unfolding items_held
 kept_under form a s zero x y front after is same r there =
     among _ front (records_in form (block_at a x)) after r (leaf_alone form s y ∙ is) (subst (λ (rs : List _). Contains rs r) (leaf_alone form a x) there)
 kept_under form a s (suc level) x y front after is same r there =
@@ -73,7 +73,7 @@ module _ {X : Type 0} {form : Form X} (laws : IsForm form) {a : Blocks} {level n
   es = entries_in form (block_at a n)
 
   abbrev has : Blocks → ℕ → List (Item X level)
-  has b m = items_in form level (block_at b m)
+  has b m = items_held form level (block_at b m)
 
   module _ {s : Blocks} {news : List ℕ} (made : Regroups form a s level n j (j + 2) (c ∷ d ∷ []) (c ∷ news)) (inside : j + 1 < length es) where
     long_now : length (entries_in form (block_at s n)) + 2 ≡ length es + length (c ∷ news)
@@ -94,11 +94,11 @@ module _ {X : Type 0} {form : Form X} (laws : IsForm form) {a : Blocks} {level n
     -- what stood under one of them stands under the i-th now, which has an item more than it needs
     spare_made : ((x : ℕ) → times x (c ∷ news) ≤ times x (c ∷ d ∷ [])) → (more : ℕ) → more ≤ 3 → MarksAtMost a s (unchanged a n + more) → is_changed s n ≡ true
         → (i k y : ℕ) → k ≡ j + i → i < length (c ∷ news) → get_or (c ∷ news) i 0 ≡ y → is_changed s y ≡ true → min_records form level + 1 ≤ item_count form s level y
-        → (x : ℕ) (front after : List (Item X level)) → 1 ≤ times x (c ∷ d ∷ []) → items_in form level (block_at s y) ≡ front ++ (items_in form level (block_at a x) ++ after)
+        → (x : ℕ) (front after : List (Item X level)) → 1 ≤ times x (c ∷ d ∷ []) → items_held form level (block_at s y) ≡ front ++ (items_held form level (block_at a x) ++ after)
         → (r : X) → Contains (records_of form a level (x ∷ [])) r → HasPathWithSurplus form a s level n r k
     spare_made sub more small marks changed i k y place within is child_changed many x front after old items r there =
         let child : child_of form s n k ≡ y = child_after form a s level n j (j + 2) (c ∷ d ∷ []) (c ∷ news) made refl (omega (arith, inside)) i k place within ∙ is in
-        let holds = for_two (λ (z : ℕ). HoldSame form a s (blocks_below form a level (z ∷ []))) c d
+        let holds = for_two (λ (z : ℕ). HoldSame form a s (rows_below form a level (z ∷ []))) c d
         (λ m some. made.below m (omega (arith, some, times_rest_append form a m level (c ∷ []) (d ∷ []))))
         (λ m some. made.below m (omega (arith, some, times_rest_append form a m level (c ∷ []) (d ∷ [])))) x old in
         let held : Contains (records_of form s level (child_of form s n k ∷ [])) r =

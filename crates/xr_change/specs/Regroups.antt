@@ -19,9 +19,9 @@ abbrev pub Item : Type 0 → ℕ → Type 0
 Item X zero = X
 Item X (suc level) = Entry
 
-unfoldable pub items_in : {X : Type 0} → Form X → (level : ℕ) → List ℕ → List (Item X level)
-items_in form zero bytes = records_in form bytes
-items_in form (suc level) bytes = entries_in form bytes
+unfoldable pub items_held : {X : Type 0} → Form X → (level : ℕ) → List ℕ → List (Item X level)
+items_held form zero bytes = records_in form bytes
+items_held form (suc level) bytes = entries_in form bytes
 
 -- a whole block of a level with these items
 unfoldable pub IsBlockOf : {X : Type 0} → Form X → (level : ℕ) → Site → Place → List (Item X level) → List ℕ → Type 0
@@ -56,7 +56,7 @@ HasNewLeft form before after q old new =
 -- some blocks of a level hold the items that others held, one block after the other
 abbrev pub HaveSameItems : {X : Type 0} → Form X → Blocks → Blocks → ℕ → List ℕ → List ℕ → Type 0
 HaveSameItems form before after level old new =
-    flat_map (λ (m : ℕ). items_in form level (block_at after m)) new ≡ flat_map (λ (m : ℕ). items_in form level (block_at before m)) old
+    flat_map (λ (m : ℕ). items_held form level (block_at after m)) new ≡ flat_map (λ (m : ℕ). items_held form level (block_at before m)) old
 
 -- where these blocks were linked, those are
 abbrev pub StayLinked : {X : Type 0} → Form X → Blocks → Blocks → ℕ → List ℕ → List ℕ → Type 0
@@ -92,9 +92,9 @@ pub record NamesChildren {X : Type 0} (form : Form X) (a b d : Blocks) (level n 
   pub few : length entries ≤ form.node_max
 
 -- the blocks of the rows below one
-abbrev pub blocks_below : {X : Type 0} → Form X → Blocks → ℕ → List ℕ → List ℕ
-blocks_below form b zero row = []
-blocks_below form b (suc level) row = blocks_of form b level (flat_map (named_below (tree_held form b)) row)
+abbrev pub rows_below : {X : Type 0} → Form X → Blocks → ℕ → List ℕ → List ℕ
+rows_below form b zero row = []
+rows_below form b (suc level) row = blocks_of form b level (flat_map (named_below (tree_held form b)) row)
 
 -- the level is that of the children. Those from the k-th to the one before the t-th are taken for others, and then the node names these.
 pub record Regroups {X : Type 0} (form : Form X) (before after : Blocks) (level n k t : ℕ) (old new : List ℕ) : Type 0 where
@@ -105,7 +105,7 @@ pub record Regroups {X : Type 0} (form : Form X) (before after : Blocks) (level 
   -- the same items are in them, and what stands below stays
   pub items : HaveSameItems form before after level old new
   pub records : records_of form between level new ≡ records_of form before level old
-  pub below : (m : ℕ) → 1 ≤ times m (blocks_below form before level old) → HoldsSame form before after m
+  pub below : (m : ℕ) → 1 ≤ times m (rows_below form before level old) → HoldsSame form before after m
   pub spare : (m : ℕ) → is_free before m ≡ true → times m new ≡ 0 → is_free after m ≡ true
 
 -- the tree under a block is another one with the same records

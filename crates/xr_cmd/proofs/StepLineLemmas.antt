@@ -17,7 +17,7 @@ use Rattle.xr_maps.specs.declared.steps.Step.TheVariants.{Remap, Punch, Exchange
 use Rattle.xr_maps.specs.Steps.{Fits}
 use Rattle.xr_cmd.specs.Text.{AreSmall, AreNumbers, spaced}
 use Rattle.xr_cmd.specs.LineParts.{IsStepAfter}
-use Rattle.xr_cmd.specs.Script.{kind_of, numbers_of, LineGives, IsPassedOver, text_of_step, AreStepsOfLines, none, passed, given}
+use Rattle.xr_cmd.specs.Script.{step_word, numbers_of, LineGives, IsPassedOver, text_of_step, AreStepsOfLines, none, passed, given}
 use Rattle.xr_cmd.proofs.NumberLemmas.{AreNumbers-same, IsAscii-spaced, first_space}
 
 -- the numbers of a step that fits are small
@@ -34,28 +34,28 @@ numbers_small (Exchange file off other other_off len) fits =
 abbrev is_letter : ℕ → Bool
 is_letter byte = ltb 32 byte && ltb byte 128
 
-kind_letters : (step : Step) → list_all is_letter (kind_of step) ≡ true
+kind_letters : (step : Step) → list_all is_letter (step_word step) ≡ true
 kind_letters (Remap file off len at) = refl
 kind_letters (Punch file off len) = refl
 kind_letters (Exchange file off other other_off len) = refl
 
-kind_letter : (step : Step) (i : ℕ) → i < length (kind_of step) → is_letter (get_or (kind_of step) i 0) ≡ true
-kind_letter step i below = AllPass-from_list_all is_letter (kind_of step) (kind_letters step) i 0 below
+kind_letter : (step : Step) (i : ℕ) → i < length (step_word step) → is_letter (get_or (step_word step) i 0) ≡ true
+kind_letter step i below = AllPass-from_list_all is_letter (step_word step) (kind_letters step) i 0 below
 
-kind_no_space : (step : Step) (i : ℕ) → i < length (kind_of step) → get_or (kind_of step) i 0 ≢ 32
+kind_no_space : (step : Step) (i : ℕ) → i < length (step_word step) → get_or (step_word step) i 0 ≢ 32
 kind_no_space step i below space =
-    let above = ltb-true 32 (get_or (kind_of step) i 0) ((and_parts _ _ (kind_letter step i below)).0) in absurd (omega arith)
+    let above = ltb-true 32 (get_or (step_word step) i 0) ((and_parts _ _ (kind_letter step i below)).0) in absurd (omega arith)
 
-kind_ascii : (step : Step) → IsAscii (kind_of step)
-kind_ascii step = IsAscii-from_all (kind_of step) (λ i d below. grind (arith, kind_letter))
+kind_ascii : (step : Step) → IsAscii (step_word step)
+kind_ascii step = IsAscii-from_all (step_word step) (λ i d below. grind (arith, kind_letter))
 
 pub LineGives-IsUtf8 : (line : List ℕ) (step : Step) → LineGives line step → IsUtf8 line
 LineGives-IsUtf8 line step gives =
-    let ascii = IsAscii-append (kind_of step) (spaced (map decimal (numbers_of step))) (kind_ascii step) (IsAscii-spaced (numbers_of step) (numbers_small step gives.fits)) in
+    let ascii = IsAscii-append (step_word step) (spaced (map decimal (numbers_of step))) (kind_ascii step) (IsAscii-spaced (numbers_of step) (numbers_small step gives.fits)) in
     rw gives.text (IsUtf8-from_ascii (text_of_step step) ascii)
 
 -- a line with a step begins with its kind, and the numbers follow after a space
-LineGives-words : (line : List ℕ) (step : Step) → LineGives line step → (words : List ℕ) × (line ≡ kind_of step ++ 32 ∷ words) × AreNumbers words (numbers_of step)
+LineGives-words : (line : List ℕ) (step : Step) → LineGives line step → (words : List ℕ) × (line ≡ step_word step ++ 32 ∷ words) × AreNumbers words (numbers_of step)
 LineGives-words line (Remap file off len at) gives = (_, gives.text, record { small = numbers_small (Remap file off len at) gives.fits; printed = refl })
 LineGives-words line (Punch file off len) gives = (_, gives.text, record { small = numbers_small (Punch file off len) gives.fits; printed = refl })
 LineGives-words line (Exchange file off other other_off len) gives =
@@ -66,8 +66,8 @@ pub LineGives-split : (line : List ℕ) (step : Step) (r : Option (Bor (List ℕ
     → MatchOption r ⊥ (λ parts. IsStepAfter parts.0.now parts.1.now step)
 LineGives-split line step r split gives =
     let words = LineGives-words line step gives in
-    let found = split_after 32 line (kind_of step) words.0 r split (omega arith) words.1 (kind_no_space step) in
-    elim r as (λ o. MatchOption o ⊥ (λ x. (x.0.now ≡ kind_of step) × (x.1.now ≡ words.0)) → MatchOption o ⊥ (λ parts. IsStepAfter parts.0.now parts.1.now step)) [
+    let found = split_after 32 line (step_word step) words.0 r split (omega arith) words.1 (kind_no_space step) in
+    elim r as (λ o. MatchOption o ⊥ (λ x. (x.0.now ≡ step_word step) × (x.1.now ≡ words.0)) → MatchOption o ⊥ (λ parts. IsStepAfter parts.0.now parts.1.now step)) [
       | None ↦ λ none. none
       | Some parts ↦ λ same. record { same_kind = sym same.0; numbers = rw same.1 words.2 }
     ] found
@@ -122,8 +122,8 @@ LineGives-same : (line : List ℕ) (s t : Step) → LineGives line s → LineGiv
 LineGives-same line s t first second =
     let a = LineGives-words line s first in
     let b = LineGives-words line t second in
-    let parts = first_space (kind_of s) (kind_of t) a.0 b.0 (kind_no_space s) (kind_no_space t) (sym a.1 ∙ b.1) in
-    IsStepAfter-same (kind_of t) b.0 s t (record { same_kind = parts.0; numbers = rw (← parts.1) a.2 }) (record { same_kind = refl; numbers = b.2 })
+    let parts = first_space (step_word s) (step_word t) a.0 b.0 (kind_no_space s) (kind_no_space t) (sym a.1 ∙ b.1) in
+    IsStepAfter-same (step_word t) b.0 s t (record { same_kind = parts.0; numbers = rw (← parts.1) a.2 }) (record { same_kind = refl; numbers = b.2 })
 
 text_not_passed_over : (step : Step) → ¬ IsPassedOver (text_of_step step)
 text_not_passed_over (Remap file off len at) hash = absurd (omega arith)

@@ -11,10 +11,10 @@ use Rattle.xr_cmd.specs.declared.script.TheConstants.{MAX_LINES, MAX_BYTES}
 use Rattle.xr_cmd.specs.Text.{words_of}
 
 -- the word that begins the line of a step, and the numbers after it
-abbrev pub kind_of : Step → List ℕ
-kind_of (Remap file off len at) = codes "remap"
-kind_of (Punch file off len) = codes "punch"
-kind_of (Exchange file off other other_off len) = codes "exchange"
+abbrev pub step_word : Step → List ℕ
+step_word (Remap file off len at) = codes "remap"
+step_word (Punch file off len) = codes "punch"
+step_word (Exchange file off other other_off len) = codes "exchange"
 
 abbrev pub numbers_of : Step → List ℕ
 numbers_of (Remap file off len at) = file.0 ∷ off ∷ len ∷ at.0 ∷ []
@@ -23,7 +23,7 @@ numbers_of (Exchange file off other other_off len) = file.0 ∷ off ∷ other.0 
 
 -- the line of a step, without its newline
 abbrev pub text_of_step : Step → List ℕ
-text_of_step step = words_of (kind_of step) (map decimal (numbers_of step))
+text_of_step step = words_of (step_word step) (map decimal (numbers_of step))
 
 -- the line stands for the step
 pub record LineGives (line : List ℕ) (step : Step) : Type 0 where

@@ -13,7 +13,7 @@ use Rattle.xr_commit.specs.Entries.{HasEntries}
 use Rattle.xr_commit.specs.BadItems.{BreaksItems, refusal_at}
 use Rattle.xr_commit.specs.GoodItems.{EntriesAreGood}
 use Rattle.xr_commit.specs.RegionHomes.{home_of_region, regions_in}
-use Rattle.xr_commit.specs.LoggedItems.{regions_of}
+use Rattle.xr_commit.specs.LoggedItems.{logged_regions}
 use Rattle.xr_commit.specs.LogRecords.{LogRecord}
 use Rattle.xr_commit.specs.CheckItems.{IsBadEntry, HasWholeItems}
 use Rattle.xr_commit.proofs.RegionCountLemmas.{region_begins}
@@ -67,7 +67,7 @@ loop_ends uuid entries i last before l over = (last, subst (λ (es : List Entry)
 
 bad_within : (uuid : List ℕ) (last : ℕ) (e : Entry) (n : ℕ) (why : ItemFault) → IsBadEntry uuid last e n why → n < regions_in (e ∷ [])
 bad_within uuid last (Trans tid regions) n why bad =
-    let front : List (List ℕ) = flat_map regions_of bad.logged in
+    let front : List (List ℕ) = flat_map logged_regions bad.logged in
     elim bad.broken [
       | inl first ↦ omega (arith, ap length first.0, length-append front (bad.region ∷ bad.more), first.1)
       | inr second ↦ omega (arith, ap length second.1, length-append front (item_bytes second.0 ∷ bad.region ∷ bad.more), second.2)

@@ -11,7 +11,7 @@ use Rattle.xr_record.specs.Stream.{are_items}
 use Rattle.xr_items.specs.declared.item.ItemFault.{ItemFault}
 use Rattle.xr_commit.specs.BadItems.{IsBadItem, IsBadRegion, IsBadlyFollowed}
 use Rattle.xr_commit.specs.GoodItems.{ItemsAreGood, RegionsAreGood, IsGoodItem, last_after, last_of}
-use Rattle.xr_commit.specs.LoggedItems.{Logged, regions_of}
+use Rattle.xr_commit.specs.LoggedItems.{Logged, logged_regions}
 use Rattle.xr_commit.specs.ItemsOf.{region_count}
 use Rattle.xr_commit.specs.CheckItems.{IsNextBad, IsNextGood}
 use Rattle.xr_commit.proofs.PartLemmas.{after_format}
@@ -20,7 +20,7 @@ use Rattle.xr_commit.proofs.PartLemmas.{after_format}
 pub record IsChecking (uuid : List ℕ) (last : ℕ) (regions : List (List ℕ)) (at latest : ℕ) : Type 0 where
   pub logged : List Logged
   pub good : ItemsAreGood uuid last logged
-  pub taken : take at regions ≡ flat_map regions_of logged
+  pub taken : take at regions ≡ flat_map logged_regions logged
   pub latest_is : latest ≡ last_of last logged
   pub left : are_items (drop at regions) ≡ true
   pub within : at ≤ length regions
@@ -36,41 +36,41 @@ pub last_push : (last : ℕ) (ls : List Logged) (l : Logged) → last_of last (l
 last_push last [] l = refl
 last_push last (m ∷ ms) l = last_push (last_after last m.item) ms l
 
-many : (item : Item) (bytes : List ℕ) → length (regions_of (record { item = item; bytes = bytes })) ≡ region_count item
+many : (item : Item) (bytes : List ℕ) → length (logged_regions (record { item = item; bytes = bytes })) ≡ region_count item
 many (Buf sector) bytes = refl
 many (Inode ino) bytes = refl
 many (Begin id work) bytes = refl
 many (Done id done) bytes = refl
 
 -- how many regions an item has
-pub as_many : (l : Logged) → length (regions_of l) ≡ region_count l.item
+pub as_many : (l : Logged) → length (logged_regions l) ≡ region_count l.item
 as_many l = many l.item l.bytes
 
 -- the regions after an item part into items again
-parts_after : (item : Item) (bytes : List ℕ) (rest : List (List ℕ)) → IsItem item → are_items (regions_of (record { item = item; bytes = bytes }) ++ rest) ≡ true → are_items rest ≡ true
+parts_after : (item : Item) (bytes : List ℕ) (rest : List (List ℕ)) → IsItem item → are_items (logged_regions (record { item = item; bytes = bytes }) ++ rest) ≡ true → are_items rest ≡ true
 parts_after (Buf sector) bytes rest valid parted = after_format (Buf sector) (bytes ∷ rest) valid parted
 parts_after (Inode ino) bytes rest valid parted = after_format (Inode ino) (bytes ∷ rest) valid parted
 parts_after (Begin id work) bytes rest valid parted = after_format (Begin id work) rest valid parted
 parts_after (Done id done) bytes rest valid parted = after_format (Done id done) rest valid parted
 
-parted_after : (l : Logged) (rest : List (List ℕ)) → IsItem l.item → are_items (regions_of l ++ rest) ≡ true → are_items rest ≡ true
+parted_after : (l : Logged) (rest : List (List ℕ)) → IsItem l.item → are_items (logged_regions l ++ rest) ≡ true → are_items rest ≡ true
 parted_after l rest valid parted = parts_after l.item l.bytes rest valid parted
 
 pub checking_on : (uuid : List ℕ) (last : ℕ) (regions : List (List ℕ)) (at latest latest' n : ℕ) (item : Item) → IsChecking uuid last regions at latest
     → IsNextGood uuid latest (drop at regions) item → latest' ≡ last_after latest item → n ≡ region_count item → IsChecking uuid last regions (at + n) latest'
 checking_on uuid last regions at latest latest' n item t next after few =
     let l = next.logged in
-    let some : n ≡ length (regions_of l) = few ∙ ap region_count (sym next.item_is) ∙ sym (as_many l) in
-    let front : take n (drop at regions) ≡ regions_of l = rw (some, next.regions_are) (take-append_seam (regions_of l) next.rest) in
-    let left_is : drop (at + n) regions ≡ next.rest = sym (drop-drop n at regions) ∙ rw (some, next.regions_are) (drop-append_seam (regions_of l) next.rest) in
+    let some : n ≡ length (logged_regions l) = few ∙ ap region_count (sym next.item_is) ∙ sym (as_many l) in
+    let front : take n (drop at regions) ≡ logged_regions l = rw (some, next.regions_are) (take-append_seam (logged_regions l) next.rest) in
+    let left_is : drop (at + n) regions ≡ next.rest = sym (drop-drop n at regions) ∙ rw (some, next.regions_are) (drop-append_seam (logged_regions l) next.rest) in
     record {
       logged = t.logged ++ l ∷ [];
       good = good_push uuid last t.logged l t.good (subst (λ (m : ℕ). IsGoodItem uuid m l) t.latest_is next.good);
-      taken = take-add at n regions ∙ rw (t.taken, front) (sym (flat_map-append regions_of t.logged (l ∷ []) ∙ ap (λ (rs : List (List ℕ)). flat_map regions_of t.logged ++ rs) (append-nil (regions_of l))));
+      taken = take-add at n regions ∙ rw (t.taken, front) (sym (flat_map-append logged_regions t.logged (l ∷ []) ∙ ap (λ (rs : List (List ℕ)). flat_map logged_regions t.logged ++ rs) (append-nil (logged_regions l))));
       latest_is = after ∙ ap (λ (m : ℕ). last_after m item) t.latest_is ∙ ap (last_after (last_of last t.logged)) (sym next.item_is) ∙ sym (last_push last t.logged l);
       left = subst (λ (rs : List (List ℕ)). are_items rs ≡ true) (sym left_is)
           (parted_after l next.rest next.good.valid (subst (λ (rs : List (List ℕ)). are_items rs ≡ true) next.regions_are t.left));
-      within = omega (arith, t.within, some, length-drop at regions, ap length next.regions_are, length-append (regions_of l) next.rest);
+      within = omega (arith, t.within, some, length-drop at regions, ap length next.regions_are, length-append (logged_regions l) next.rest);
     }
 
 pub checking_ends : (uuid : List ℕ) (last : ℕ) (regions : List (List ℕ)) (at latest n : ℕ) → IsChecking uuid last regions at latest → n ≡ length regions → n ≤ at
@@ -87,14 +87,14 @@ pub takes_some : (uuid : List ℕ) (regions : List (List ℕ)) (at latest n : �
     → (1 ≤ n) × (at + n ≤ length regions)
 takes_some uuid regions at latest n item within next few =
     let l = next.logged in
-    let some : n ≡ length (regions_of l) = few ∙ ap region_count (sym next.item_is) ∙ sym (as_many l) in
-    (omega (arith, some), omega (arith, within, some, length-drop at regions, ap length next.regions_are, length-append (regions_of l) next.rest))
+    let some : n ≡ length (logged_regions l) = few ∙ ap region_count (sym next.item_is) ∙ sym (as_many l) in
+    (omega (arith, some), omega (arith, within, some, length-drop at regions, ap length next.regions_are, length-append (logged_regions l) next.rest))
 
 pub checking_breaks : (uuid : List ℕ) (last : ℕ) (regions : List (List ℕ)) (at latest region : ℕ) (fault : ItemFault) → IsChecking uuid last regions at latest
     → (n : ℕ) × (region ≡ at + n) × IsNextBad uuid latest (drop at regions) n fault → IsBadRegion uuid last regions region fault
 checking_breaks uuid last regions at latest region fault t (n, place, bad) =
-    let here : length (flat_map regions_of t.logged) ≡ at = ap length (sym t.taken) ∙ length-take-le at regions t.within in
-    let whole : regions ≡ flat_map regions_of t.logged ++ drop at regions = sym (take-append-drop at regions) ∙ ap (λ (rs : List (List ℕ)). rs ++ drop at regions) t.taken in
+    let here : length (flat_map logged_regions t.logged) ≡ at = ap length (sym t.taken) ∙ length-take-le at regions t.within in
+    let whole : regions ≡ flat_map logged_regions t.logged ++ drop at regions = sym (take-append-drop at regions) ∙ ap (λ (rs : List (List ℕ)). rs ++ drop at regions) t.taken in
     record {
       logged = t.logged;
       good = t.good;
@@ -102,13 +102,13 @@ checking_breaks uuid last regions at latest region fault t (n, place, bad) =
       more = bad.more;
       broken = elim bad.broken [
         | inl first ↦ inl (
-          whole ∙ ap (λ (rs : List (List ℕ)). flat_map regions_of t.logged ++ rs) first.0,
+          whole ∙ ap (λ (rs : List (List ℕ)). flat_map logged_regions t.logged ++ rs) first.0,
           omega (arith, place, here, first.1),
           subst (λ (m : ℕ). IsBadItem m bad.region fault) t.latest_is first.2,
         )
         | inr second ↦ inr (
           second.0,
-          whole ∙ ap (λ (rs : List (List ℕ)). flat_map regions_of t.logged ++ rs) second.1,
+          whole ∙ ap (λ (rs : List (List ℕ)). flat_map logged_regions t.logged ++ rs) second.1,
           omega (arith, place, here, second.2),
           subst (λ (m : ℕ). IsBadlyFollowed uuid m second.0 bad.region fault) t.latest_is second.3,
         )

@@ -9,7 +9,7 @@ use Rattle.xr_record.specs.Stream.{are_items}
 use Rattle.xr_items.specs.declared.item.ItemFault.{ItemFault}
 use Rattle.xr_commit.specs.BadItems.{IsBadFollower, IsBadItem}
 use Rattle.xr_commit.specs.GoodItems.{IsFollowed, Rises}
-use Rattle.xr_commit.specs.LoggedItems.{regions_of}
+use Rattle.xr_commit.specs.LoggedItems.{logged_regions}
 use Rattle.xr_commit.specs.CheckItems.{IsNextBad, IsNextGood}
 use Rattle.xr_commit.proofs.PartLemmas.{after_format, one_follows}
 
@@ -28,13 +28,13 @@ none_after uuid (Inode ino) none = absurd (omega (arith, none))
 none_after uuid (Begin id work) none = refl
 none_after uuid (Done id done) none = refl
 
-alone : (item : Item) → following item ≡ 0 → regions_of (record { item = item; bytes = [] }) ≡ item_bytes item ∷ []
+alone : (item : Item) → following item ≡ 0 → logged_regions (record { item = item; bytes = [] }) ≡ item_bytes item ∷ []
 alone (Buf sector) none = absurd (omega (arith, none))
 alone (Inode ino) none = absurd (omega (arith, none))
 alone (Begin id work) none = refl
 alone (Done id done) none = refl
 
-with_follower : (item : Item) (bytes : List ℕ) → 0 < following item → regions_of (record { item = item; bytes = bytes }) ≡ item_bytes item ∷ bytes ∷ []
+with_follower : (item : Item) (bytes : List ℕ) → 0 < following item → logged_regions (record { item = item; bytes = bytes }) ≡ item_bytes item ∷ bytes ∷ []
 with_follower (Buf sector) bytes some = refl
 with_follower (Inode ino) bytes some = refl
 with_follower (Begin id work) bytes some = absurd (omega (arith, some))

@@ -13,18 +13,18 @@ use Rattle.xr_record.specs.declared.entry.Entry.TheVariants.{Trans}
 use Rattle.xr_commit.specs.declared.fault.ScanFault.{ScanFault}
 use Rattle.xr_commit.specs.declared.fault.ScanFault.TheVariants as of_scan
 use Rattle.xr_commit.specs.Entries.{HasEntries}
-use Rattle.xr_commit.specs.LoggedItems.{Logged, regions_of}
+use Rattle.xr_commit.specs.LoggedItems.{Logged, logged_regions}
 use Rattle.xr_commit.specs.LogRecords.{LogRecord}
 use Rattle.xr_commit.specs.GoodItems.{EntriesAreGood, IsCoreOf, IsFollowed, ItemsAreGood, Rises, last_of}
 use Rattle.xr_commit.specs.RegionHomes.{home_of_region, regions_in}
 
 -- a field of the region is named
-abbrev pub NamesField : ItemFault → Type 0
-NamesField fault = (place : ℕ) × (fault ≡ Field place)
+abbrev pub NamesSomeField : ItemFault → Type 0
+NamesSomeField fault = (place : ℕ) × (fault ≡ Field place)
 
 -- it is none, and one of its fields is named
 abbrev pub IsNoCoreOf : List ℕ → ℕ → List ℕ → ItemFault → Type 0
-IsNoCoreOf uuid ino bytes fault = (IsCoreOf uuid ino bytes → ⊥) × NamesField fault
+IsNoCoreOf uuid ino bytes fault = (IsCoreOf uuid ino bytes → ⊥) × NamesSomeField fault
 
 -- The next region is bad: it is no item, or an intent whose id doesn't rise,
 abbrev pub IsBadItem : ℕ → List ℕ → ItemFault → Type 0
@@ -35,7 +35,7 @@ IsBadItem last bytes fault =
 abbrev pub IsBadFollower : List ℕ → Item → List ℕ → ItemFault → Type 0
 IsBadFollower uuid item bytes fault =
     ((length bytes ≢ following item) × (fault ≡ Size 0))
-    ⊎ ((length bytes ≡ following item) × (IsFollowed uuid item bytes → ⊥) × NamesField fault)
+    ⊎ ((length bytes ≡ following item) × (IsFollowed uuid item bytes → ⊥) × NamesSomeField fault)
 
 -- an item that is right by itself, with a wrong region after it
 pub record IsBadlyFollowed (uuid : List ℕ) (last : ℕ) (item : Item) (bytes : List ℕ) (fault : ItemFault) : Type 0 where
@@ -51,8 +51,8 @@ pub record IsBadRegion (uuid : List ℕ) (last : ℕ) (regions : List (List ℕ)
   pub region : List ℕ
   pub more : List (List ℕ)
   pub broken :
-      ((regions ≡ flat_map regions_of logged ++ region ∷ more) × (n ≡ length (flat_map regions_of logged)) × IsBadItem (last_of last logged) region fault)
-      ⊎ ((item : Item) × (regions ≡ flat_map regions_of logged ++ item_bytes item ∷ region ∷ more) × (n ≡ length (flat_map regions_of logged) + 1)
+      ((regions ≡ flat_map logged_regions logged ++ region ∷ more) × (n ≡ length (flat_map logged_regions logged)) × IsBadItem (last_of last logged) region fault)
+      ⊎ ((item : Item) × (regions ≡ flat_map logged_regions logged ++ item_bytes item ∷ region ∷ more) × (n ≡ length (flat_map logged_regions logged) + 1)
       × IsBadlyFollowed uuid (last_of last logged) item region fault)
 
 -- the refusal of a log by the rule that a region breaks, with a block

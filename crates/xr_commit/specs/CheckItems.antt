@@ -8,7 +8,7 @@ use Rattle.xr_record.specs.declared.entry.Entry.TheVariants.{Trans, Unmount}
 use Rattle.xr_record.specs.Stream.{are_items}
 use Rattle.xr_commit.specs.BadItems.{IsBadItem, IsBadRegion, IsBadlyFollowed}
 use Rattle.xr_commit.specs.GoodItems.{IsGoodItem}
-use Rattle.xr_commit.specs.LoggedItems.{Logged, regions_of}
+use Rattle.xr_commit.specs.LoggedItems.{Logged, logged_regions}
 
 -- the regions begin with this item, which is good
 pub record IsNextGood (uuid : List ℕ) (last : ℕ) (regions : List (List ℕ)) (item : Item) : Type 0 where
@@ -16,7 +16,7 @@ pub record IsNextGood (uuid : List ℕ) (last : ℕ) (regions : List (List ℕ))
   pub item_is : logged.item ≡ item
   pub good : IsGoodItem uuid last logged
   pub rest : List (List ℕ)
-  pub regions_are : regions ≡ regions_of logged ++ rest
+  pub regions_are : regions ≡ logged_regions logged ++ rest
 
 -- or with a bad one, or a bad one follows the first
 pub record IsNextBad (uuid : List ℕ) (last : ℕ) (regions : List (List ℕ)) (n : ℕ) (fault : ItemFault) : Type 0 where

@@ -9,7 +9,7 @@ use Rattle.xr_items.specs.Items.{following}
 use Rattle.xr_items.specs.Valid.{IsItem}
 use Rattle.xr_record.specs.declared.entry.Entry.{Entry}
 use Rattle.xr_record.specs.declared.entry.Entry.TheVariants.{Trans, Unmount}
-use Rattle.xr_commit.specs.LoggedItems.{Logged, regions_of}
+use Rattle.xr_commit.specs.LoggedItems.{Logged, logged_regions}
 
 -- the core of the file with an inode number, in the file system with this identifier
 pub record IsCoreOf (uuid : List ℕ) (ino : ℕ) (bytes : List ℕ) : Type 0 where
@@ -53,7 +53,7 @@ last_of last (l ∷ ls) = last_of (last_after last l.item) ls
 pub record RegionsAreGood (uuid : List ℕ) (last : ℕ) (regions : List (List ℕ)) (last' : ℕ) : Type 0 where
   pub logged : List Logged
   pub good : ItemsAreGood uuid last logged
-  pub regions_are : regions ≡ flat_map regions_of logged
+  pub regions_are : regions ≡ flat_map logged_regions logged
   pub last_is : last' ≡ last_of last logged
 
 -- the same of all entries, one after another

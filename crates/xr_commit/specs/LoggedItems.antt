@@ -12,15 +12,15 @@ pub record Logged : Type 0 where
   pub item : Item
   pub bytes : List ℕ
 
-abbrev pub regions_of : Logged → List (List ℕ)
-regions_of l = item_bytes l.item ∷ (if following l.item == 0 then [] else (l.bytes ∷ []))
+abbrev pub logged_regions : Logged → List (List ℕ)
+logged_regions l = item_bytes l.item ∷ (if following l.item == 0 then [] else (l.bytes ∷ []))
 
 -- the regions are those of these items, one after another
 pub record AreItemsOf (regions : List (List ℕ)) (items : List Item) : Type 0 where
   pub logged : List Logged
   pub items_are : items ≡ map (λ (l : Logged). l.item) logged
   pub valid : AllByRecursion (λ (l : Logged). IsItem l.item) logged
-  pub regions_are : regions ≡ flat_map regions_of logged
+  pub regions_are : regions ≡ flat_map logged_regions logged
 
 -- the same of an entry
 abbrev pub IsEntryOf : Entry → List Item → Type 0

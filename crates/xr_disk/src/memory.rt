@@ -196,7 +196,7 @@ impl Disk for MemDisk {
                 self.synced.copy_from_slice(&self.image);
                 Ok(())
             }
-            Fate::Fails | Fate::Stops => Err(count(&mut self.faults)),
+            Fate::Stops | Fate::Fails => Err(count(&mut self.faults)),
         }
     }
 

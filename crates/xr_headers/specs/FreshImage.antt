@@ -4,7 +4,7 @@ use Rattle.byteorder.specs.Endian.{big_bytes}
 use Rattle.xr_base.specs.Image.{blocks_below}
 use Rattle.xr_base.specs.declared.geometry.TheConstants.{BLOCK_BYTES, SECTOR_BYTES, BLOCKS, FIRST_LOG_BLOCK, FIRST_FILE_BLOCK, FILE_BLOCKS, FIRST_INODE, FIRST_GROUP_BLOCK, GROUP_BLOCKS, FIRST_DATA_BLOCK, DATA_BLOCKS, BLOCK_SECTORS}
 use Rattle.xr_headers.specs.declared.layout.TheConstants.{MISSING, UNMOUNT_BYTES, UNMOUNT_CLIENT, UNMOUNT_DATA, UNMOUNT_MAGIC}
-use Rattle.xr_base.specs.declared.layout.TheConstants.{LONG_BB_CRC, SHORT_BB_CRC, MAPPING_MAGIC, REFERENCE_MAGIC, REVERSE_MAGIC, BY_SIZE_MAGIC, BY_BLOCK_MAGIC, MAX_BODY_BYTES, RECORD_CRC, RECORD_FORMAT, RECORD_VERSION, RECORD_MAGIC}
+use Rattle.xr_base.specs.declared.layout.TheConstants.{LONG_BB_CRC, SHORT_BB_CRC, MAPPING_MAGIC, REFERENCE_MAGIC, REVERSE_MAGIC, BY_SIZE_MAGIC, BY_BLOCK_MAGIC, MAX_BODY_BYTES, RECORD_CRC_PLACE, RECORD_FORMAT, RECORD_VERSION, RECORD_MAGIC}
 use Rattle.xr_headers.specs.declared.group_head.GroupHead.{GroupHead}
 use Rattle.xr_headers.specs.declared.file_core.Core.{Core}
 use Rattle.xr_headers.specs.Headers.{super_block, group_block, core_block}
@@ -40,7 +40,7 @@ unmount_fields uuid cycle =
 
 -- the log's first block: the record's two sectors, and zeros
 abbrev pub fresh_log_block : List ℕ → ℕ → List ℕ
-fresh_log_block uuid cycle = zero_padded BLOCK_BYTES (with_crc RECORD_CRC (zero_padded (2 * SECTOR_BYTES) (unmount_fields uuid cycle)))
+fresh_log_block uuid cycle = zero_padded BLOCK_BYTES (with_crc RECORD_CRC_PLACE (zero_padded (2 * SECTOR_BYTES) (unmount_fields uuid cycle)))
 
 -- a leaf of a group's tree that is the tree's root, with at most one record of two words. Its level is zero, it has no
 -- siblings, and no record of the log stands for it.

@@ -8,7 +8,7 @@ use Rattle.xr_base.specs.Image.{part}
 use Rattle.xr_base.specs.ImageLaws.{part-front}
 use Rattle.xr_base.specs.declared.geometry.TheConstants.{BLOCK_BYTES, SECTOR_BYTES, FIRST_LOG_BLOCK, FIRST_FILE_BLOCK, FILE_BLOCKS, FIRST_GROUP_BLOCK, GROUP_BLOCKS, UUID_BYTES}
 use Rattle.xr_headers.specs.declared.layout.TheConstants.{UUID_PLACE, BLOCK_CRC}
-use Rattle.xr_base.specs.declared.layout.TheConstants.{RECORD_CRC, RECORD_MAGIC}
+use Rattle.xr_base.specs.declared.layout.TheConstants.{RECORD_CRC_PLACE, RECORD_MAGIC}
 use Rattle.xr_headers.specs.FreshImage.{fresh_block_of, fresh_front_block, fresh_file_block, fresh_group_block, fresh_log_block, unmount_fields}
 use Rattle.xr_headers.specs.Padded.{with_crc, zero_padded}
 use Rattle.xr_headers.specs.PaddedLaws.{length-with_crc_padded, zero_padded_is}
@@ -36,16 +36,16 @@ fresh_block_of-cycle uuid c d n elsewhere =
     (front_block-cycle uuid c d n elsewhere)
 
 -- the log's first block names the cycle
-cycle_in-record : (uuid : List ℕ) (cycle : ℕ) → part 4 4 (with_crc RECORD_CRC (zero_padded (2 * SECTOR_BYTES) (unmount_fields uuid cycle))) ≡ big_bytes 4 cycle
+cycle_in-record : (uuid : List ℕ) (cycle : ℕ) → part 4 4 (with_crc RECORD_CRC_PLACE (zero_padded (2 * SECTOR_BYTES) (unmount_fields uuid cycle))) ≡ big_bytes 4 cycle
 unfolding unmount_fields
 cycle_in-record uuid cycle =
-    read_back RECORD_CRC (2 * SECTOR_BYTES) 4 4 (unmount_fields uuid cycle) (big_bytes 4 RECORD_MAGIC) (big_bytes 4 cycle) (drop 8 (unmount_fields uuid cycle))
+    read_back RECORD_CRC_PLACE (2 * SECTOR_BYTES) 4 4 (unmount_fields uuid cycle) (big_bytes 4 RECORD_MAGIC) (big_bytes 4 cycle) (drop 8 (unmount_fields uuid cycle))
     refl refl refl (omega arith) (omega arith)
 
 cycle_in-log : (uuid : List ℕ) (cycle : ℕ) → part 4 4 (fresh_log_block uuid cycle) ≡ big_bytes 4 cycle
 cycle_in-log uuid cycle =
-    let record_bytes : List ℕ = with_crc RECORD_CRC (zero_padded (2 * SECTOR_BYTES) (unmount_fields uuid cycle)) in
-    let long : length record_bytes ≡ 2 * SECTOR_BYTES = length-with_crc_padded RECORD_CRC (2 * SECTOR_BYTES) (unmount_fields uuid cycle) (omega arith) in
+    let record_bytes : List ℕ = with_crc RECORD_CRC_PLACE (zero_padded (2 * SECTOR_BYTES) (unmount_fields uuid cycle)) in
+    let long : length record_bytes ≡ 2 * SECTOR_BYTES = length-with_crc_padded RECORD_CRC_PLACE (2 * SECTOR_BYTES) (unmount_fields uuid cycle) (omega arith) in
     ap (part 4 4) (zero_padded_is BLOCK_BYTES 3072 record_bytes (omega arith)) ∙ part-front 4 4 record_bytes (replicate 3072 0) (omega arith) ∙ cycle_in-record uuid cycle
 
 pub cycle_in-fresh : (uuid : List ℕ) (cycle : ℕ) → cycle < 2 ^ 32 → big_number 4 (drop 4 (fresh_block_of uuid cycle FIRST_LOG_BLOCK)) ≡ cycle

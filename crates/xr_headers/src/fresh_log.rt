@@ -7,7 +7,10 @@ use crate::codec::{clear, put_first_lsn, put_uuid, put_words, seal};
 use crate::layout::{MISSING, UNMOUNT_BYTES, UNMOUNT_CLIENT, UNMOUNT_DATA, UNMOUNT_MAGIC};
 use uuid::Uuid;
 use xr_base::geometry::{BLOCK_BYTES, SECTOR_BYTES};
-use xr_base::layout::{MAX_BODY_BYTES, RECORD_CRC, RECORD_FORMAT, RECORD_MAGIC, RECORD_VERSION};
+use xr_base::layout::{
+    MAX_BODY_BYTES, RECORD_CRC_PLACE, RECORD_FORMAT, RECORD_FORMAT_PLACE, RECORD_LSN_PLACE,
+    RECORD_MAGIC, RECORD_SIZE_PLACE, RECORD_TAIL_PLACE, RECORD_UUID_PLACE, RECORD_VERSION,
+};
 
 fn lay_record(uuid: &Uuid, cycle: u32, out: &mut [u8])
     requires { length out.old ≡ BLOCK_BYTES }
@@ -19,12 +22,12 @@ fn lay_record(uuid: &Uuid, cycle: u32, out: &mut [u8])
         0,
         &[RECORD_MAGIC, cycle, RECORD_VERSION, UNMOUNT_BYTES],
     );
-    put_first_lsn(out, 16, cycle);
-    put_first_lsn(out, 24, cycle);
-    put_words(out, 32, &[0, MISSING, 1]);
-    put_words(out, 300, &[RECORD_FORMAT]);
-    put_uuid(out, 304, uuid);
-    put_words(out, 320, &[MAX_BODY_BYTES as u32]);
+    put_first_lsn(out, RECORD_LSN_PLACE, cycle);
+    put_first_lsn(out, RECORD_TAIL_PLACE, cycle);
+    put_words(out, RECORD_CRC_PLACE, &[0, MISSING, 1]);
+    put_words(out, RECORD_FORMAT_PLACE, &[RECORD_FORMAT]);
+    put_uuid(out, RECORD_UUID_PLACE, uuid);
+    put_words(out, RECORD_SIZE_PLACE, &[MAX_BODY_BYTES as u32]);
     put_words(
         out,
         SECTOR_BYTES,
@@ -38,5 +41,5 @@ pub(crate) fn put_fresh_log(uuid: &Uuid, cycle: u32, out: &mut [u8])
     ensures { out.new ≡ fresh_log_block uuid.now cycle }
 {
     lay_record(uuid, cycle, out);
-    seal(&mut out[..2 * SECTOR_BYTES], RECORD_CRC);
+    seal(&mut out[..2 * SECTOR_BYTES], RECORD_CRC_PLACE);
 }

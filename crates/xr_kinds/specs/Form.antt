@@ -65,13 +65,13 @@ pub record IsForm {X : Type 0} (form : Form X) : Type 0 where
       → (form.is_valid x ≡ true) × (form.bytes_of x ≡ bytes)
   pub meets_both : (x y : X) → form.meet x y ≡ form.meet y x
   pub agrees_both : (x y : X) → form.agree x y ≡ form.agree y x
-  -- a full block fits, half of one has two items, and the numbers are small enough to be added up
+  -- a full block fits, half of one has two items, a node has room for sixteen keys, and the numbers are small enough to be added up
   pub leaf_fits : header_size form + form.leaf_max * form.size ≤ 4096
   pub node_fits : header_size form + form.node_max * (key_size form + pointer_size form) ≤ 4096
   pub leaf_few : form.leaf_max < 2 ^ 16
   pub node_few : form.node_max < 2 ^ 16
   pub keys_small : key_size form < 2 ^ 16
   pub leaf_some : 4 ≤ form.leaf_max
-  pub node_some : 4 ≤ form.node_max
+  pub node_some : 16 ≤ form.node_max
   pub size_some : 1 ≤ form.size
   pub low_some : 1 ≤ form.low

@@ -6,8 +6,8 @@ use Rattle.xr_base.specs.Fields.{be32_at}
 use Rattle.xr_base.specs.Image.{part}
 use Rattle.xr_base.specs.declared.geometry.TheConstants.{LOG_SECTORS, SECTOR_BYTES, CYCLES, UUID_BYTES}
 use Rattle.xr_record.specs.declared.head.Head.{Head}
-use Rattle.xr_record.specs.declared.layout.TheConstants.{CYCLE_PLACE, FORMAT_PLACE, LEN_PLACE, LSN_PLACE, OPS_PLACE, PREV_PLACE, SIZE_PLACE, TAIL_PLACE, UUID_PLACE, VERSION_PLACE, WORDS_BYTES, WORDS_PLACE, ZEROS_PLACE}
-use Rattle.xr_base.specs.declared.layout.TheConstants.{RECORD_CRC, MAX_BODY_BYTES, RECORD_FORMAT, RECORD_VERSION, RECORD_MAGIC}
+use Rattle.xr_record.specs.declared.layout.TheConstants.{CYCLE_PLACE, LEN_PLACE, OPS_PLACE, PREV_PLACE, VERSION_PLACE, WORDS_BYTES, WORDS_PLACE, ZEROS_PLACE}
+use Rattle.xr_base.specs.declared.layout.TheConstants.{RECORD_CRC_PLACE, MAX_BODY_BYTES, RECORD_FORMAT, RECORD_VERSION, RECORD_MAGIC, RECORD_FORMAT_PLACE, RECORD_LSN_PLACE, RECORD_SIZE_PLACE, RECORD_TAIL_PLACE, RECORD_UUID_PLACE}
 use Rattle.xr_record.specs.declared.unsealing.SealFault.{SealFault}
 use Rattle.xr_record.specs.declared.unsealing.SealFault.TheVariants.{Magic, Version, Length, Checksum, Place}
 use Rattle.xr_record.specs.Lsn.{lsn_number}
@@ -16,12 +16,12 @@ use Rattle.xr_record.specs.Record.{IsSealed, restored, sectors_of, padded_body}
 -- the values in the fields of a header
 abbrev pub head_in : List ℕ → Head
 head_in bytes = record {
-  lsn = record { cycle = be32_at bytes LSN_PLACE; sector = be32_at bytes (LSN_PLACE + 4) };
-  tail = record { cycle = be32_at bytes TAIL_PLACE; sector = be32_at bytes (TAIL_PLACE + 4) };
+  lsn = record { cycle = be32_at bytes RECORD_LSN_PLACE; sector = be32_at bytes (RECORD_LSN_PLACE + 4) };
+  tail = record { cycle = be32_at bytes RECORD_TAIL_PLACE; sector = be32_at bytes (RECORD_TAIL_PLACE + 4) };
   prev = be32_at bytes PREV_PLACE;
   ops = be32_at bytes OPS_PLACE;
   len = be32_at bytes LEN_PLACE;
-  uuid = part UUID_PLACE UUID_BYTES bytes;
+  uuid = part RECORD_UUID_PLACE UUID_BYTES bytes;
 }
 
 -- the sectors of the body that the header names
@@ -33,8 +33,8 @@ HasMagic bytes = be32_at bytes 0 ≡ RECORD_MAGIC
 
 pub record HasVersion (bytes : List ℕ) : Type 0 where
   pub version : be32_at bytes VERSION_PLACE ≡ RECORD_VERSION
-  pub format : be32_at bytes FORMAT_PLACE ≡ RECORD_FORMAT
-  pub size : be32_at bytes SIZE_PLACE ≡ MAX_BODY_BYTES
+  pub format : be32_at bytes RECORD_FORMAT_PLACE ≡ RECORD_FORMAT
+  pub size : be32_at bytes RECORD_SIZE_PLACE ≡ MAX_BODY_BYTES
 
 pub record HasLength (bytes : List ℕ) : Type 0 where
   pub some : 0 < be32_at bytes LEN_PLACE
@@ -43,10 +43,10 @@ pub record HasLength (bytes : List ℕ) : Type 0 where
 
 -- the checksum of the record's sectors with its own field as zero
 abbrev pub checksum_in : List ℕ → ℕ
-checksum_in bytes = checksum_of (without_four RECORD_CRC (take (SECTOR_BYTES + SECTOR_BYTES * sectors_of (be32_at bytes LEN_PLACE)) bytes))
+checksum_in bytes = checksum_of (without_four RECORD_CRC_PLACE (take (SECTOR_BYTES + SECTOR_BYTES * sectors_of (be32_at bytes LEN_PLACE)) bytes))
 
 abbrev pub HasChecksum : List ℕ → Type 0
-HasChecksum bytes = little_number 4 (drop RECORD_CRC bytes) ≡ checksum_in bytes
+HasChecksum bytes = little_number 4 (drop RECORD_CRC_PLACE bytes) ≡ checksum_in bytes
 
 -- each of the first sectors begins with the cycle
 abbrev pub HasStamps : ℕ → ℕ → List ℕ → Type 0
@@ -69,22 +69,22 @@ IsPadded len bytes = AreZero (slice_range (body_in len bytes) len (SECTOR_BYTES 
 
 -- it says that it is the record of that sector of the log
 pub record IsHere (sector : ℕ) (bytes : List ℕ) : Type 0 where
-  pub here : be32_at bytes (LSN_PLACE + 4) ≡ sector
+  pub here : be32_at bytes (RECORD_LSN_PLACE + 4) ≡ sector
   pub log : sector < LOG_SECTORS
-  pub cycle : be32_at bytes CYCLE_PLACE ≡ be32_at bytes LSN_PLACE
-  pub round : 0 < be32_at bytes LSN_PLACE
-  pub cycles : be32_at bytes LSN_PLACE < CYCLES
+  pub cycle : be32_at bytes CYCLE_PLACE ≡ be32_at bytes RECORD_LSN_PLACE
+  pub round : 0 < be32_at bytes RECORD_LSN_PLACE
+  pub cycles : be32_at bytes RECORD_LSN_PLACE < CYCLES
   pub tail : lsn_number (head_in bytes).tail ≤ lsn_number (head_in bytes).lsn
 
 -- the header's words past the last sector and its end are zero
 abbrev pub HasZeros : ℕ → List ℕ → Type 0
 HasZeros sectors bytes =
-    AreZero (slice_range bytes (WORDS_PLACE + 4 * sectors) FORMAT_PLACE) × AreZero (slice_range bytes ZEROS_PLACE SECTOR_BYTES)
+    AreZero (slice_range bytes (WORDS_PLACE + 4 * sectors) RECORD_FORMAT_PLACE) × AreZero (slice_range bytes ZEROS_PLACE SECTOR_BYTES)
 
 -- and has its stamps and zeros, but for what follows the body
 pub record IsPlacedRecord (sector : ℕ) (bytes : List ℕ) : Type 0 where
   pub here : IsHere sector bytes
-  pub stamps : HasStamps (be32_at bytes LSN_PLACE) (sectors_in bytes) (drop SECTOR_BYTES bytes)
+  pub stamps : HasStamps (be32_at bytes RECORD_LSN_PLACE) (sectors_in bytes) (drop SECTOR_BYTES bytes)
   pub zeros : HasZeros (sectors_in bytes) bytes
 
 pub record IsInPlace (sector : ℕ) (bytes : List ℕ) : Type 0 where

@@ -8,10 +8,13 @@ ghost use Rattle.xr_record.specs.Record.{fields_before, fields_after};
 use crate::bytes::{put, put_word};
 use crate::head::Head;
 use crate::layout::{
-    CYCLE_PLACE, FORMAT_PLACE, LEN_PLACE, LSN_PLACE, OPS_PLACE, PREV_PLACE, SIZE_PLACE, TAIL_PLACE,
-    UUID_PLACE, VERSION_PLACE, WORDS_PLACE, ZEROS_BYTES, ZEROS_PLACE,
+    CYCLE_PLACE, LEN_PLACE, OPS_PLACE, PREV_PLACE, VERSION_PLACE, WORDS_PLACE, ZEROS_BYTES,
+    ZEROS_PLACE,
 };
-use xr_base::layout::{MAX_BODY_BYTES, RECORD_CRC, RECORD_FORMAT, RECORD_MAGIC, RECORD_VERSION};
+use xr_base::layout::{
+    MAX_BODY_BYTES, RECORD_CRC_PLACE, RECORD_FORMAT, RECORD_FORMAT_PLACE, RECORD_LSN_PLACE,
+    RECORD_MAGIC, RECORD_SIZE_PLACE, RECORD_TAIL_PLACE, RECORD_UUID_PLACE, RECORD_VERSION,
+};
 
 /// Writes the fields before the words. The one of the checksum is zero.
 fn put_fields_before(header: &mut [u8], head: &Head)
@@ -23,11 +26,11 @@ fn put_fields_before(header: &mut [u8], head: &Head)
     put_word(header, CYCLE_PLACE, head.lsn.cycle);
     put_word(header, VERSION_PLACE, RECORD_VERSION);
     put_word(header, LEN_PLACE, head.len);
-    put_word(header, LSN_PLACE, head.lsn.cycle);
-    put_word(header, LSN_PLACE + 4, head.lsn.sector);
-    put_word(header, TAIL_PLACE, head.tail.cycle);
-    put_word(header, TAIL_PLACE + 4, head.tail.sector);
-    put_word(header, RECORD_CRC, 0);
+    put_word(header, RECORD_LSN_PLACE, head.lsn.cycle);
+    put_word(header, RECORD_LSN_PLACE + 4, head.lsn.sector);
+    put_word(header, RECORD_TAIL_PLACE, head.tail.cycle);
+    put_word(header, RECORD_TAIL_PLACE + 4, head.tail.sector);
+    put_word(header, RECORD_CRC_PLACE, 0);
     put_word(header, PREV_PLACE, head.prev);
     put_word(header, OPS_PLACE, head.ops);
 }
@@ -35,11 +38,11 @@ fn put_fields_before(header: &mut [u8], head: &Head)
 /// Writes the fields after the words.
 fn put_fields_after(header: &mut [u8], head: &Head)
     requires { length header.old ≡ SECTOR_BYTES }
-    ensures { header.new ≡ take FORMAT_PLACE header.old ++ fields_after head.now }
+    ensures { header.new ≡ take RECORD_FORMAT_PLACE header.old ++ fields_after head.now }
 {
-    put_word(header, FORMAT_PLACE, RECORD_FORMAT);
-    put(header, UUID_PLACE, head.uuid.as_bytes());
-    put_word(header, SIZE_PLACE, MAX_BODY_BYTES as u32);
+    put_word(header, RECORD_FORMAT_PLACE, RECORD_FORMAT);
+    put(header, RECORD_UUID_PLACE, head.uuid.as_bytes());
+    put_word(header, RECORD_SIZE_PLACE, MAX_BODY_BYTES as u32);
     put(header, ZEROS_PLACE, &[0; ZEROS_BYTES]);
 }
 

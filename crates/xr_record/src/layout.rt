@@ -1,5 +1,6 @@
 //! The numbers of the formats of records and operations, each named once for code and specs ("XFS Algorithms and Data
-//! Structures", 3rd edition, Log Record and Log Operations).
+//! Structures", 3rd edition, Log Record and Log Operations). Those that a fresh log's first record needs, too, stand in
+//! `xr_base::layout`.
 
 /// The place in a record's header of `h_cycle`. `h_magicno` is at the front.
 pub const CYCLE_PLACE: usize = 4;
@@ -10,12 +11,6 @@ pub const VERSION_PLACE: usize = 8;
 /// The place of `h_len`.
 pub const LEN_PLACE: usize = 12;
 
-/// The place of `h_lsn`: a cycle and then a sector.
-pub const LSN_PLACE: usize = 16;
-
-/// The place of `h_tail_lsn`.
-pub const TAIL_PLACE: usize = 24;
-
 /// The place of `h_prev_block`, which follows `h_crc`.
 pub const PREV_PLACE: usize = 36;
 
@@ -24,15 +19,6 @@ pub const OPS_PLACE: usize = 40;
 
 /// The place of the words, `h_cycle_data`.
 pub const WORDS_PLACE: usize = 44;
-
-/// The place of `h_fmt`.
-pub const FORMAT_PLACE: usize = 300;
-
-/// The place of `h_fs_uuid`.
-pub const UUID_PLACE: usize = 304;
-
-/// The place of `h_size`.
-pub const SIZE_PLACE: usize = 320;
 
 /// The place of the zeros at the header's end, and how many they are.
 pub const ZEROS_PLACE: usize = 324;

@@ -12,7 +12,7 @@ use crate::words::stamp;
 use byteorder::{ByteOrder, LittleEndian};
 use xr_base::crc32c;
 use xr_base::geometry::SECTOR_BYTES;
-use xr_base::layout::RECORD_CRC;
+use xr_base::layout::RECORD_CRC_PLACE;
 
 /// The sectors that a body of so many bytes takes.
 pub fn sectors_of(len: u32) -> usize
@@ -45,5 +45,5 @@ pub fn seal(head: &Head, out: &mut [u8])
     write_sectors(head, out);
     let mut checksum = [0; 4];
     LittleEndian::write_u32(&mut checksum, crc32c(out));
-    put(out, RECORD_CRC, &checksum);
+    put(out, RECORD_CRC_PLACE, &checksum);
 }

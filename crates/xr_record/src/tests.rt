@@ -14,7 +14,7 @@ use std::test::Fail;
 use uuid::Uuid;
 use xr_base::crc32c_without;
 use xr_base::geometry::SECTOR_BYTES;
-use xr_base::layout::{MAX_BODY_BYTES, RECORD_CRC};
+use xr_base::layout::{MAX_BODY_BYTES, RECORD_CRC_PLACE};
 
 fn head_of(len: u32) -> Head
     requires some { 0 < len }
@@ -114,8 +114,8 @@ fn refuses_by_the_first_broken_rule(rt: HostRuntime) -> Result<(), Fail> {
         assert!(rt; place < record.len() && record.len() == 1536);
         record[place] = value;
         if again {
-            let checksum = crc32c_without(&record, RECORD_CRC);
-            LittleEndian::write_u32(&mut record[RECORD_CRC..], checksum);
+            let checksum = crc32c_without(&record, RECORD_CRC_PLACE);
+            LittleEndian::write_u32(&mut record[RECORD_CRC_PLACE..], checksum);
         }
         let before = record.clone()?;
         assert_eq!(rt; opened(&rt, &mut record), Err(wanted), "byte {place}");

@@ -11,8 +11,8 @@ ghost use Rattle.xr_record.specs.Unsealing.{IsPlacedRecord, IsRefusal, Opens, ch
 use crate::bytes::is_zero;
 use crate::head::{Head, Lsn};
 use crate::layout::{
-    CYCLE_PLACE, FORMAT_PLACE, LEN_PLACE, LSN_PLACE, OPS_PLACE, PREV_PLACE, SIZE_PLACE, TAIL_PLACE,
-    UUID_PLACE, VERSION_PLACE, WORDS_BYTES, WORDS_PLACE, ZEROS_PLACE,
+    CYCLE_PLACE, LEN_PLACE, OPS_PLACE, PREV_PLACE, VERSION_PLACE, WORDS_BYTES, WORDS_PLACE,
+    ZEROS_PLACE,
 };
 use crate::sealing::sectors_of;
 use crate::words::{restore, stamp};
@@ -20,7 +20,10 @@ use byteorder::{BigEndian, ByteOrder, LittleEndian};
 use thiserror::Error;
 use uuid::Uuid;
 use xr_base::geometry::{CYCLES, LOG_SECTORS, SECTOR_BYTES, UUID_BYTES};
-use xr_base::layout::{MAX_BODY_BYTES, RECORD_CRC, RECORD_FORMAT, RECORD_MAGIC, RECORD_VERSION};
+use xr_base::layout::{
+    MAX_BODY_BYTES, RECORD_CRC_PLACE, RECORD_FORMAT, RECORD_FORMAT_PLACE, RECORD_LSN_PLACE,
+    RECORD_MAGIC, RECORD_SIZE_PLACE, RECORD_TAIL_PLACE, RECORD_UUID_PLACE, RECORD_VERSION,
+};
 use xr_base::{be32_at, crc32c_without};
 
 /// Why the bytes at a sector aren't a sealed record of that sector: the first rule, in this order, that is broken.
@@ -71,12 +74,12 @@ fn head_in(bytes: &[u8]) -> Head
     ensures small { AreBytes bytes.now }
 {
     Head {
-        lsn: lsn_in(bytes, LSN_PLACE),
-        tail: lsn_in(bytes, TAIL_PLACE),
+        lsn: lsn_in(bytes, RECORD_LSN_PLACE),
+        tail: lsn_in(bytes, RECORD_TAIL_PLACE),
         prev: be32_at(bytes, PREV_PLACE),
         ops: be32_at(bytes, OPS_PLACE),
         len: be32_at(bytes, LEN_PLACE),
-        uuid: uuid_in(bytes, UUID_PLACE),
+        uuid: uuid_in(bytes, RECORD_UUID_PLACE),
     }
 }
 
@@ -85,8 +88,8 @@ fn has_version(bytes: &[u8]) -> bool
     ensures { IsTrue result ↔ HasVersion bytes.now }
 {
     be32_at(bytes, VERSION_PLACE) == RECORD_VERSION
-        && be32_at(bytes, FORMAT_PLACE) == RECORD_FORMAT
-        && be32_at(bytes, SIZE_PLACE) == MAX_BODY_BYTES as u32
+        && be32_at(bytes, RECORD_FORMAT_PLACE) == RECORD_FORMAT
+        && be32_at(bytes, RECORD_SIZE_PLACE) == MAX_BODY_BYTES as u32
 }
 
 fn has_length(bytes: &[u8]) -> bool
@@ -106,7 +109,8 @@ fn has_checksum(bytes: &[u8]) -> bool
     ensures fits { checksum_in bytes.now < 2 ^ 32 }
 {
     let total = SECTOR_BYTES + SECTOR_BYTES * sectors_of(be32_at(bytes, LEN_PLACE));
-    LittleEndian::read_u32(&bytes[RECORD_CRC..]) == crc32c_without(&bytes[..total], RECORD_CRC)
+    LittleEndian::read_u32(&bytes[RECORD_CRC_PLACE..])
+        == crc32c_without(&bytes[..total], RECORD_CRC_PLACE)
 }
 
 fn has_stamp(body: &[u8], i: usize, cycle: u32) -> bool
@@ -149,7 +153,7 @@ fn has_zeros(bytes: &[u8], sectors: usize) -> bool
     requires words { 4 * sectors ≤ WORDS_BYTES }
     ensures { IsTrue result ↔ HasZeros sectors bytes.now }
 {
-    is_zero(&bytes[WORDS_PLACE + 4 * sectors..FORMAT_PLACE])
+    is_zero(&bytes[WORDS_PLACE + 4 * sectors..RECORD_FORMAT_PLACE])
         && is_zero(&bytes[ZEROS_PLACE..SECTOR_BYTES])
 }
 
@@ -160,7 +164,7 @@ fn is_placed(bytes: &[u8], sector: u32) -> bool
     ensures { IsTrue result ↔ IsPlacedRecord sector bytes.now }
 {
     let sectors = sectors_of(be32_at(bytes, LEN_PLACE));
-    let cycle = be32_at(bytes, LSN_PLACE);
+    let cycle = be32_at(bytes, RECORD_LSN_PLACE);
     if !is_here(bytes, sector) {
         return false;
     }
@@ -182,7 +186,7 @@ fn open(bytes: &mut [u8], len: u32, cycle: u32) -> bool
 {
     let sectors = sectors_of(len);
     let (header, body) = bytes.split_at_mut(SECTOR_BYTES);
-    restore(&header[WORDS_PLACE..FORMAT_PLACE], body, sectors);
+    restore(&header[WORDS_PLACE..RECORD_FORMAT_PLACE], body, sectors);
     if is_zero(&body[len as usize..SECTOR_BYTES * sectors]) {
         return true;
     }

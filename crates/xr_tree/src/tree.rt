@@ -1,5 +1,5 @@
 //! A tree, by its root.
-ghost use Rattle.std.specs.Prelude.{◌≡◌, ℕ, ◌+◌, ◌*◌, ◌≤◌, ◌↔◌, true, false, length, IsOk, IfOk, IsTrue};
+ghost use Rattle.std.specs.Prelude.{◌≡◌, ℕ, ◌+◌, ◌*◌, ◌≤◌, ◌↔◌, true, false, length, IsOk, IfErr, IfOk, IsTrue};
 ghost use Rattle.std.specs.List.{All, Contains};
 ghost use Rattle.xr_block.specs.Tree.{AreRecords};
 ghost use Rattle.xr_block.specs.Trees.{IsOwnTree, IsTree, Marks, blocks_of_tree, records_of_tree};
@@ -8,6 +8,7 @@ ghost use Rattle.xr_change.specs.Sets.{inserted, removed, replaced};
 ghost use Rattle.xr_lookup.specs.Lookup.{FindsGreatest, FindsLeast, from, overlaps, up_to};
 ghost use Rattle.xr_pool.specs.Bits.{has_bit};
 ghost use Rattle.xr_pool.specs.Overlay.{free_count, pool_size};
+ghost use Rattle.xr_verify.specs.Refusals.{RefusesTree};
 
 use std::marker::{Model, PhantomData};
 use xr_block::Root;
@@ -54,7 +55,10 @@ impl<R: Record> Tree<R> {
 impl<R: Kept> Tree<R> {
     /// The tree below a root, if the blocks there are one and none of them is marked in `seen`, which has a bit for each
     /// block of the pool: bit `n % 8` of byte `n / 8`, the lowest first, for block `n`. The tree's blocks are marked there.
-    /// After a fault `seen` may hold any marks.
+    /// A refusal names the image block that breaks a rule first, as the blocks are visited: each before its children, and
+    /// these from left to right. Its kind is that of the first rule that this block breaks. A pointer to no block of the
+    /// pool is a fault of the block that holds it, and a root that is none of the pool a fault of block 0. After a refusal
+    /// `seen` may hold any marks.
     pub fn verify(
         over: &Overlay,
         root: u32,
@@ -63,6 +67,7 @@ impl<R: Kept> Tree<R> {
     ) -> Result<Tree<R>, TreeFault>
         requires { pool_size over.now ≤ 8 * length seen.old }
         ensures right { IsOk result ↔ IsOwnTree R.form over.now (record { block = root; level = level }) seen.old }
+        ensures refused { IfErr result (RefusesTree R.form over.now (record { block = root; level = level }) seen.old) }
         ensures tree { IfOk result (λ tree. tree ≡ record { block = root; level = level }) }
         ensures long { length seen.new ≡ length seen.old }
         ensures marked { IfOk result (λ tree. Marks seen.old (blocks_of_tree R.form over.now tree) seen.new) }

@@ -1,9 +1,11 @@
 -- The children of a node, visited one after the other.
-use Rattle.std.proofs.Common.{◌≡◌, ℕ, zero, suc, ◌+◌, ◌<◌, ◌≤◌, ◌==◌, ◌&&◌, Bool, Option, Some, List, [], ◌∷◌, ◌++◌, length, drop, get_or, refl, sym, ap, ◌∙◌, subst, arith, ⊎_elim}
+use Rattle.std.proofs.Common.{◌≡◌, ℕ, zero, suc, ◌+◌, ◌<◌, ◌≤◌, ◌==◌, ◌&&◌, Bool, Option, Some, List, [], ◌∷◌, ◌++◌, length, drop, get_or, refl, sym, ap, ◌∙◌, subst, arith, inr, ⊎_elim}
 use Rattle.std.proofs.lemmas.Bool.{cases_eq, eq-eqb, ne_eqb}
 use Rattle.std.proofs.lemmas.List.{append-nil, append_assoc, drop_all, length-drop}
 use Rattle.std.specs.List.{flat_map}
+use Rattle.xr_block.specs.declared.fault.TreeFault.{TreeFault}
 use Rattle.xr_verify.specs.declared.passed.Passed.{Passed}
+use Rattle.xr_verify.specs.Refusals.{RefusesBelow, RefusesRow}
 use Rattle.xr_pool.specs.Bits.{has_bit}
 use Rattle.xr_kinds.specs.Form.{Form, IsForm}
 use Rattle.xr_block.specs.NodeEntries.{child_in, key_in}
@@ -15,7 +17,7 @@ use Rattle.xr_block.specs.TreeBlock.{count_in}
 use Rattle.xr_verify.specs.Visits.{AreMarked, AreNamedFrom, AreSound, AreTrees, AreVisited, children, is_end, last_below, mark}
 use Rattle.xr_verify.proofs.PassLemmas.{next_dropped}
 use Rattle.xr_verify.proofs.SoundnessLemmas.{one_at_most, sound_front, sound_apart, sound_joined}
-use Rattle.xr_verify.proofs.VisitLemmas.{min_records_fit, records_append, times_blocks}
+use Rattle.xr_verify.proofs.VisitLemmas.{child_is, min_records_fit, records_append, times_blocks}
 use Rattle.xr_block.specs.Times.{times}
 
 pub records_of_past : {X L : Type 0} (form : Form X) (Notes : L → List X → Type 0) (p : Passed X L) (noted : List X) → IsPast form Notes p noted → AreRecords form noted
@@ -88,6 +90,16 @@ module _ {X : Type 0} (form : Form X) (b : Blocks) where
     first_joined (r ∷ rs) first others =
         sound_joined form laws b (min_records form level) level left last (c ∷ []) (r ∷ rs) seen now noted (min_records_fit form laws level) refl marked first others
 
+-- a later child is refused after the first one
+row_after : {X : Type 0} (form : Form X) (b : Blocks) (RefusesChild : Option ℕ → Bool → ℕ → Type 0 → List ℕ → List X → TreeFault → Type 0) (level n : ℕ) (last : Bool)
+    (k c : ℕ) (cs : List ℕ) (left : Option ℕ) (seen now : List ℕ) (noted : List X) (fault : TreeFault)
+    → AreSound form b (min_records form level) level left (is_end cs && last) (c ∷ []) seen noted
+    → key_in form k (block_at b n) ≡ key_held form (tree_held form b) level c → AreMarked seen (blocks_of form b level (c ∷ [])) now
+    → RefusesRow form b RefusesChild level n last (k + 1) cs (Some c) now (noted ++ records_of form b level (c ∷ [])) fault
+    → RefusesRow form b RefusesChild level n last k (c ∷ cs) left seen noted fault
+unfolding RefusesRow
+row_after form b RefusesChild level n last k c cs left seen now noted fault sound named marked row = inr (inr (sound, named, (now, marked, row)))
+
 -- where the first k children of a node are visited: what is asked of all is asked of those that are left, after some records
 pub record AreVisitedTo {X L : Type 0} (form : Form X) (Notes : L → List X → Type 0) (b : Blocks) (level n : ℕ) (before : Option ℕ) (last : Bool) (seen : List ℕ) (noted : List X) (left : Option ℕ) (now : List ℕ) (p : Passed X L) (k : ℕ) : Type 0 where
   pub records : List X
@@ -97,6 +109,8 @@ pub record AreVisitedTo {X L : Type 0} (form : Form X) (Notes : L → List X →
   pub all : AreSound form b (min_records form level) level left last (drop k (children form b n)) now records → AreNamedFrom form b level n k
       → AreSound form b (min_records form level) level before last (children form b n) seen noted × AreNamedFrom form b level n 0
   pub same : records ++ records_of form b level (drop k (children form b n)) ≡ noted ++ records_of form b level (children form b n)
+  pub refused : (fault : TreeFault) → RefusesRow form b (RefusesBelow form b level (min_records form level)) level n last k (drop k (children form b n)) left now records fault
+      → RefusesRow form b (RefusesBelow form b level (min_records form level)) level n last 0 (children form b n) before seen noted fault
 
 -- and the marks
 pub record AreMarkedTo {X : Type 0} (form : Form X) (b : Blocks) (level n : ℕ) (seen now : List ℕ) (k : ℕ) : Type 0 where
@@ -160,6 +174,11 @@ module _ {X L : Type 0} (form : Form X) (laws : IsForm form) (Notes : L → List
           same = append_assoc to.records own (records_of form b level others)
               ∙ ap (λ (rs : List X). to.records ++ rs) (sym (records_append form b level (c ∷ []) others))
               ∙ ap (λ (row : List ℕ). to.records ++ records_of form b level row) (sym next) ∙ to.same;
+          refused = λ fault row.
+              let child : c ≡ child_in form k (block_at b n) = is 0 ∙ child_is form b n k 0 (omega (arith, within, counted)) in
+              to.refused fault (subst (λ (cs : List ℕ). RefusesRow form b (RefusesBelow form b level (min_records form level)) level n last k cs left now to.records fault) (sym next)
+              (row_after form b (RefusesBelow form b level (min_records form level)) level n last k c others left now after to.records fault first
+              (named ∙ ap (key_held form (tree_held form b) level) (sym child)) marked row));
         }
 
 pub marked_more : {X : Type 0} (form : Form X) (b : Blocks) (level n : ℕ) (seen now after : List ℕ) (k c : ℕ) → k < length (children form b n)

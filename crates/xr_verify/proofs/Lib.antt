@@ -4,6 +4,7 @@ pub mod LastLedgerLemmas
 pub mod LastLemmas
 pub mod OwnedLineLemmas
 pub mod PassLemmas
+pub mod RefusalLemmas
 pub mod RunBitLemmas
 pub mod SharedRunLemmas
 pub mod SoundnessLemmas

@@ -14,7 +14,7 @@ use Rattle.xr_kinds.specs.declared.reverse.Reverse.{Reverse}
 use Rattle.xr_base.specs.declared.geometry.TheConstants.{OWN_COW}
 use Rattle.xr_kinds.specs.declared.span.Span.{Span}
 use Rattle.xr_verify.specs.Ledger.{AgreesWithAll, IsNext}
-use Rattle.xr_verify.specs.OwnedRuns.{HoldsEnds, line_of}
+use Rattle.xr_verify.specs.OwnedRuns.{HoldsEnds, ledger_line}
 use Rattle.xr_kinds.specs.Reverse.{is_reverse, on_one_line, reverse_form, reverse_order, reverse_span}
 use Rattle.xr_kinds.specs.SpanLaws.{group_run}
 use Rattle.xr_kinds.specs.Spans.{apart, end_of}
@@ -25,10 +25,10 @@ run_of x good = group_run (reverse_span x) (grind (arith, nat_tests))
 file_of : (x : Reverse) → is_reverse x ≡ true → x.owner ≢ OWN_COW → (128 ≤ x.owner) × (x.owner < 160) × (x.off + x.len ≤ 512)
 file_of x good other = (grind (arith, nat_tests), grind (arith, nat_tests), grind (arith, nat_tests))
 
-staged_line : (x : Reverse) → x.owner ≡ OWN_COW → line_of x ≡ 0
+staged_line : (x : Reverse) → x.owner ≡ OWN_COW → ledger_line x ≡ 0
 staged_line x is = ap (λ (test : Bool). if test then 0 else (x.owner - 128) * 2048 + (x.start - x.off)) (eq-eqb x.owner OWN_COW is)
 
-file_line : (x : Reverse) → x.owner ≢ OWN_COW → line_of x ≡ (x.owner - 128) * 2048 + (x.start - x.off)
+file_line : (x : Reverse) → x.owner ≢ OWN_COW → ledger_line x ≡ (x.owner - 128) * 2048 + (x.start - x.off)
 file_line x other = ap (λ (test : Bool). if test then 0 else (x.owner - 128) * 2048 + (x.start - x.off)) (ne_eqb x.owner OWN_COW other)
 
 or_true : (a b : Bool) → b ≡ true → (a || b) ≡ true
@@ -49,7 +49,7 @@ on_if : (x r : Reverse) → x.owner ≡ r.owner → ((x.owner == OWN_COW) || (x.
 on_if x r owner line = rw (eq-eqb x.owner r.owner owner, line) refl
 
 -- two runs are on one line exactly where their lines are one
-line_same : (x r : Reverse) → is_reverse x ≡ true → is_reverse r ≡ true → on_one_line x r ≡ true → line_of x ≡ line_of r
+line_same : (x r : Reverse) → is_reverse x ≡ true → is_reverse r ≡ true → on_one_line x r ≡ true → ledger_line x ≡ ledger_line r
 line_same x r good_x good_r on =
     let owner = owners_of x r on in
     ⊎_elim
@@ -61,7 +61,7 @@ line_same x r good_x good_r on =
     ∙ sym (file_line r other))
     (cases_eq x.owner OWN_COW)
 
-same_line : (x r : Reverse) → is_reverse x ≡ true → is_reverse r ≡ true → line_of x ≡ line_of r → on_one_line x r ≡ true
+same_line : (x r : Reverse) → is_reverse x ≡ true → is_reverse r ≡ true → ledger_line x ≡ ledger_line r → on_one_line x r ≡ true
 same_line x r good_x good_r same =
     let run_x = run_of x good_x in
     let run_r = run_of r good_r in
@@ -119,17 +119,17 @@ agrees_cases x r true is apart_is = agrees_on x r (apart_is refl)
 
 -- so a run agrees with all where the last one of its line ends before it
 pub owned_agrees : (noted : List Reverse) (ends : List ℕ) (r : Reverse) → HoldsEnds ends noted → IsNext reverse_form noted r
-    → (get_or ends (line_of r) 0 < r.start) ↔ AgreesWithAll reverse_form noted r
+    → (get_or ends (ledger_line r) 0 < r.start) ↔ AgreesWithAll reverse_form noted r
 owned_agrees noted ends r holds next = (
   λ before k d within.
       let x = get_or noted k d in
       agrees_cases x r (on_one_line x r) refl (λ on.
       let line = line_same x r (next.passed.valid k d within) next.valid on in
-      let same : get_or ends (line_of x) 0 ≡ get_or ends (line_of r) 0 = ap (λ (i : ℕ). get_or ends i 0) line in
+      let same : get_or ends (ledger_line x) 0 ≡ get_or ends (ledger_line r) 0 = ap (λ (i : ℕ). get_or ends i 0) line in
       before_is_apart (reverse_span x) (reverse_span r) (omega (arith, before, same, holds.above k d within))),
   λ all. ⊎_elim
-      (λ (none : get_or ends (line_of r) 0 ≡ 0). omega (arith, none, run_of r next.valid))
-      (λ (found : Any (λ (x : Reverse). (line_of x ≡ line_of r) × (end_of (reverse_span x) ≡ get_or ends (line_of r) 0)) noted).
+      (λ (none : get_or ends (ledger_line r) 0 ≡ 0). omega (arith, none, run_of r next.valid))
+      (λ (found : Any (λ (x : Reverse). (ledger_line x ≡ ledger_line r) × (end_of (reverse_span x) ≡ get_or ends (ledger_line r) 0)) noted).
       let x = found.1 in
       let good : is_reverse x ≡ true = ap is_reverse (sym found.3) ∙ next.passed.valid found.0 x found.2 in
       let agrees : reverse_form.agree x r ≡ true = ap (λ (y : Reverse). reverse_form.agree y r) (sym found.3) ∙ all found.0 x found.2 in
@@ -137,7 +137,7 @@ owned_agrees noted ends r holds next = (
       let before = apart_is_before (reverse_span x) (reverse_span r) (starts_below x r above) (run_of r next.valid).1
       (apart_on x r (same_line x r good next.valid found.4.0) agrees) in
       omega (arith, before, found.4.1))
-      (holds.only (line_of r)),
+      (holds.only (ledger_line r)),
 )
 
 pub ends_none : (ends : List ℕ) → ends ≡ replicate LINES 0 → HoldsEnds ends []
@@ -148,7 +148,7 @@ ends_none ends is = record {
 }
 
 pub ends_more : (noted : List Reverse) (ends now : List ℕ) (r : Reverse) (line end : ℕ) → HoldsEnds ends noted → IsNext reverse_form noted r
-    → AgreesWithAll reverse_form noted r → line ≡ line_of r → end ≡ end_of (reverse_span r) → line < LINES → now ≡ slice_set ends line end
+    → AgreesWithAll reverse_form noted r → line ≡ ledger_line r → end ≡ end_of (reverse_span r) → line < LINES → now ≡ slice_set ends line end
     → HoldsEnds now (noted ++ r ∷ [])
 ends_more noted ends now r line end holds next agrees line_is end_is within is =
     let long : length (noted ++ r ∷ []) ≡ length noted + 1 = length-append noted (r ∷ []) in
@@ -156,32 +156,32 @@ ends_more noted ends now r line end holds next agrees line_is end_is within is =
     ap (λ (xs : List ℕ). get_or xs line 0) is ∙ get_or-set_same ends line end 0 (omega (arith, within, holds.long)) in
     let other : (i : ℕ) → (i ≡ line → ⊥) → get_or now i 0 ≡ get_or ends i 0 = λ i apart.
     ap (λ (xs : List ℕ). get_or xs i 0) is ∙ get_or-set_other ends line i end 0 apart in
-    let before : get_or ends (line_of r) 0 < r.start = (owned_agrees noted ends r holds next).1 agrees in
-    let own : get_or now (line_of r) 0 ≡ end = ap (λ (i : ℕ). get_or now i 0) (sym line_is) ∙ here in
-    let each : (x : Reverse) → end_of (reverse_span x) ≤ get_or ends (line_of x) 0 → end_of (reverse_span x) ≤ get_or now (line_of x) 0 = λ x fits. ⊎_elim
-    (λ (same : line_of x ≡ line).
-    let old : get_or ends (line_of x) 0 ≡ get_or ends (line_of r) 0 = ap (λ (i : ℕ). get_or ends i 0) (same ∙ line_is) in
-    let new : get_or now (line_of x) 0 ≡ end = ap (λ (i : ℕ). get_or now i 0) same ∙ here in
+    let before : get_or ends (ledger_line r) 0 < r.start = (owned_agrees noted ends r holds next).1 agrees in
+    let own : get_or now (ledger_line r) 0 ≡ end = ap (λ (i : ℕ). get_or now i 0) (sym line_is) ∙ here in
+    let each : (x : Reverse) → end_of (reverse_span x) ≤ get_or ends (ledger_line x) 0 → end_of (reverse_span x) ≤ get_or now (ledger_line x) 0 = λ x fits. ⊎_elim
+    (λ (same : ledger_line x ≡ line).
+    let old : get_or ends (ledger_line x) 0 ≡ get_or ends (ledger_line r) 0 = ap (λ (i : ℕ). get_or ends i 0) (same ∙ line_is) in
+    let new : get_or now (ledger_line x) 0 ≡ end = ap (λ (i : ℕ). get_or now i 0) same ∙ here in
     omega (arith, fits, old, new, before, end_is))
-    (λ (apart : line_of x ≡ line → ⊥). omega (arith, fits, other (line_of x) apart))
-    (cases_eq (line_of x) line) in
+    (λ (apart : ledger_line x ≡ line → ⊥). omega (arith, fits, other (ledger_line x) apart))
+    (cases_eq (ledger_line x) line) in
     record {
       long = ap length is ∙ length-set ends line end ∙ holds.long;
       above = λ k d under. ⊎_elim
           (λ (noted_before : k < length noted).
-          subst (λ (x : Reverse). end_of (reverse_span x) ≤ get_or now (line_of x) 0) (sym (get_or_append_left noted (r ∷ []) d k noted_before))
+          subst (λ (x : Reverse). end_of (reverse_span x) ≤ get_or now (ledger_line x) 0) (sym (get_or_append_left noted (r ∷ []) d k noted_before))
           (each (get_or noted k d) (holds.above k d noted_before)))
           (λ (at : length noted ≤ k).
           let last : k ≡ length noted = omega (arith, at, under, long) in
           let is_r : get_or (noted ++ r ∷ []) k d ≡ r = ap (λ (i : ℕ). get_or (noted ++ r ∷ []) i d) last ∙ get_or-append_seam noted r [] d in
-          subst (λ (x : Reverse). end_of (reverse_span x) ≤ get_or now (line_of x) 0) (sym is_r) (omega (arith, own, end_is)))
+          subst (λ (x : Reverse). end_of (reverse_span x) ≤ get_or now (ledger_line x) 0) (sym is_r) (omega (arith, own, end_is)))
           (cases_lt k (length noted));
       only = λ i. ⊎_elim
           (λ (same : i ≡ line).
           inr (length noted, r, omega (arith, long), get_or-append_seam noted r [] r, (sym line_is ∙ sym same, sym end_is ∙ sym here ∙ ap (λ (j : ℕ). get_or now j 0) (sym same))))
           (λ (apart : i ≡ line → ⊥). ⊎_elim
           (λ (none : get_or ends i 0 ≡ 0). inl (other i apart ∙ none))
-          (λ (found : Any (λ (x : Reverse). (line_of x ≡ i) × (end_of (reverse_span x) ≡ get_or ends i 0)) noted).
+          (λ (found : Any (λ (x : Reverse). (ledger_line x ≡ i) × (end_of (reverse_span x) ≡ get_or ends i 0)) noted).
           inr (
             found.0,
             found.1,

@@ -1,8 +1,11 @@
 -- What a visit of a block answers, from what is answered of the block by itself and of its children.
-use Rattle.std.proofs.Common.{◌≡◌, ◌↔◌, ℕ, zero, suc, ◌+◌, ◌<◌, ◌≤◌, ◌==◌, ◌&&◌, Bool, true, false, Result, Ok, Err, Option, Some, List, [], ◌∷◌, ◌++◌, length, map, drop, get_or, sym, ap, ◌∙◌, subst, arith}
+use Rattle.std.proofs.Common.{◌≡◌, ◌↔◌, ℕ, zero, suc, ◌+◌, ◌<◌, ◌≤◌, ◌==◌, ◌&&◌, Bool, true, false, Result, Ok, Err, Option, Some, List, [], ◌∷◌, ◌++◌, length, map, drop, get_or, sym, ap, ◌∙◌, subst, arith, inl, inr}
 use Rattle.std.proofs.lemmas.List.{ext_get_or, get_or-map, length-map}
 use Rattle.std.specs.Result.{IsErr, IsOk}
+use Rattle.xr_block.specs.declared.fault.TreeFault.{TreeFault}
 use Rattle.xr_verify.specs.declared.passed.Passed.{Passed}
+use Rattle.xr_verify.specs.Refusals.{RefusesBelow, RefusesPointer, RefusesRow}
+use Rattle.xr_verify.proofs.PassLemmas.{next_dropped}
 use Rattle.xr_kinds.specs.Form.{Form, IsForm}
 use Rattle.xr_block.specs.NodeEntries.{child_in, key_in}
 use Rattle.xr_block.specs.NodeEntryLaws.{entry_read, length-entries}
@@ -128,6 +131,16 @@ module _ {X L : Type 0} (form : Form X) (laws : IsForm form) (Notes : L → List
       let used = sound_used form b (min_records form level) level left _ c now to.records next.0 in
       (used.from, used.below)
 
+  -- it isn't, and what of the node is refused then
+  pub pointer_refused : (c : ℕ) (bytes : List ℕ) (fault : TreeFault) → bytes ≡ block_at b n → c ≡ child_in form k bytes → k < count_in bytes → RefusesPointer b n c fault
+      → RefusesRow form b (RefusesBelow form b level (min_records form level)) level n last 0 (children form b n) before seen noted fault
+  unfolding RefusesRow
+  pointer_refused c bytes fault is child within refused =
+      let under : k < count_in (block_at b n) = subst (λ (xs : List ℕ). k < count_in xs) is within in
+      let row = next_dropped (children form b n) k c (omega (arith, under, length-children form b n)) (nth_child form b n k c bytes is child under) in
+      to.refused fault (subst (λ (cs : List ℕ). RefusesRow form b (RefusesBelow form b level (min_records form level)) level n last k cs left now to.records fault) (sym row)
+      (inl refused))
+
   module _ (count : ℕ) (bytes key : List ℕ) (c least : ℕ) (end : Bool) (next : IsChild form b level n last k count bytes key c least end) where
     under : k < count_in (block_at b n)
     under = subst (λ (xs : List ℕ). k < count_in xs) next.bytes_are (omega (arith, next.counted, next.within))
@@ -156,6 +169,21 @@ module _ {X L : Type 0} (form : Form X) (laws : IsForm form) (Notes : L → List
               (subst (λ (test : Bool). AreSound form b (min_records form level) level left test (c ∷ []) now to.records) end_same found.0),
           key_same ∙ found.1 ∙ child_same,
         )
+
+    -- a refusal below it is one of the node
+    pub child_refused : (fault : TreeFault) → (1 ≤ c) × (c < pool_size b)
+        → RefusesBelow form b level least left end c (key ≡ key_held form (tree_held form b) level c) now to.records fault
+        → RefusesRow form b (RefusesBelow form b level (min_records form level)) level n last 0 (children form b n) before seen noted fault
+    unfolding RefusesRow
+    child_refused fault used refused =
+        let row = next_dropped (children form b n) k c within nth in
+        let least_as = subst (λ (m : ℕ). RefusesBelow form b level m left end c (key ≡ key_held form (tree_held form b) level c) now to.records fault) next.least_is refused in
+        let end_as = subst (λ (test : Bool). RefusesBelow form b level (min_records form level) left test c (key ≡ key_held form (tree_held form b) level c) now to.records fault)
+        (sym end_same) least_as in
+        let key_as = subst (λ (bytes : List ℕ). RefusesBelow form b level (min_records form level) left (is_end (drop (k + 1) (children form b n)) && last) c
+        (bytes ≡ key_held form (tree_held form b) level c) now to.records fault) key_same end_as in
+        to.refused fault (subst (λ (cs : List ℕ). RefusesRow form b (RefusesBelow form b level (min_records form level)) level n last k cs left now to.records fault) (sym row)
+        (inr (inl (used, key_as))))
 
     pub child_done : (after : List ℕ) (q : Passed X L) → AreMarked now (blocks_of form b level (c ∷ [])) after
         → AreSound form b least level left end (c ∷ []) now to.records × (key ≡ key_held form (tree_held form b) level c)

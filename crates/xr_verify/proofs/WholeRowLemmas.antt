@@ -4,10 +4,9 @@ use Rattle.std.specs.Bool.{⊤}
 use Rattle.std.proofs.lemmas.Bool.{cases_eq}
 use Rattle.std.proofs.lemmas.List.{length-append, length-map}
 use Rattle.std.specs.List.{flat_map}
-use Rattle.xr_base.specs.declared.geometry.TheConstants.{BLOCKS}
 use Rattle.xr_block.specs.Checks.{IsCheckedNode, left_in, place_in, right_in}
 use Rattle.xr_kinds.specs.Form.{Form, IsForm, pointer_size}
-use Rattle.xr_pool.specs.Overlay.{AreKnown, AreWhole, Blocks, block_at, is_free, pool_size}
+use Rattle.xr_pool.specs.Overlay.{AreKnown, Blocks, block_at, is_free, pool_size}
 use Rattle.xr_block.specs.Rows.{AreLinked, AreNamed, AreRowsOf, IsWholeLeaf, IsWholeNode, first_of, min_records, rows_from}
 use Rattle.xr_block.specs.Tree.{IsUsed, blocks_of, site_of, tree_held}
 use Rattle.xr_block.specs.TreeBlock.{Entry, Place, entries_in}

@@ -1,4 +1,3 @@
--- Of no public contract.
 -- A tree as it is visited, each block before its children and from left to right: what is asked of each block, and what is
 -- known after some of them.
 use Rattle.std.specs.Prelude.{◌≡◌, ℕ, zero, suc, ◌+◌, ◌-◌, ◌<◌, ◌≤◌, ◌&&◌, ⊤, Bool, true, false, nat_le, nat_lt, if◌then◌else◌, IfSome, Option, Some, None, List, [], ◌∷◌, ◌++◌, length, map}

@@ -1,10 +1,12 @@
 //! A block of a tree by itself: whether it may be entered, and whether it gives the key that its parent names.
-ghost use Rattle.std.specs.Prelude.{◌≡◌, ℕ, ◌+◌, ◌*◌, ◌<◌, ◌≤◌, ◌↔◌, [], ◌∷◌, false, length, IsOk, IsTrue, IfSome};
+ghost use Rattle.std.specs.Prelude.{◌≡◌, ℕ, ◌+◌, ◌*◌, ◌<◌, ◌≤◌, ◌↔◌, [], ◌∷◌, false, length, IsOk, IsTrue, IfErr, IfSome};
 ghost use Rattle.xr_pool.specs.Bits.{has_bit};
 ghost use Rattle.xr_kinds.specs.Form.{key_size};
 ghost use Rattle.xr_pool.specs.Overlay.{block_at, is_free, pool_size};
 ghost use Rattle.xr_block.specs.Rows.{key_held};
 ghost use Rattle.xr_block.specs.Tree.{tree_held};
+ghost use Rattle.xr_block.specs.declared.fault.TreeKind.TheVariants.{Reuse};
+ghost use Rattle.xr_verify.specs.Refusals.{RefusesBlock, RefusesOpening};
 ghost use Rattle.xr_verify.specs.Visits.{AreMarked, IsUnvisited, IsChecked};
 
 use xr_block::check::{check_leaf, check_node};
@@ -20,6 +22,7 @@ fn mark(over: &Overlay, n: u32, seen: &mut [u8]) -> Result<(), TreeKind>
     requires within { n < pool_size over.now }
     requires room { pool_size over.now ≤ 8 * length seen.old }
     ensures open { IsOk result ↔ IsUnvisited over.now n seen.old }
+    ensures refused { IfErr result (λ kind. kind ≡ Reuse) }
     ensures marked { IsOk result → AreMarked seen.old (n ∷ []) seen.new }
     ensures long { length seen.new ≡ length seen.old }
 {
@@ -33,7 +36,8 @@ fn mark(over: &Overlay, n: u32, seen: &mut [u8]) -> Result<(), TreeKind>
 /// Tests a block by itself.
 fn check_block<R: Record>(over: &Overlay, n: u32, level: u32, least: usize) -> Result<(), TreeKind>
     requires within { n < pool_size over.now }
-    ensures { IsOk result ↔ IsChecked R.form over.now least level n }
+    ensures tests { IsOk result ↔ IsChecked R.form over.now least level n }
+    ensures refused { IfErr result (RefusesBlock R.form over.now least level n) }
 {
     let block = over.block(n);
     if level == 0 {
@@ -84,6 +88,7 @@ pub(crate) fn open<R: Record>(
     requires within { n < pool_size over.now }
     requires room { pool_size over.now ≤ 8 * length seen.old }
     ensures tests { IsOk result ↔ (IsUnvisited over.now n seen.old × IsChecked R.form over.now least level n) }
+    ensures refused { IfErr result (RefusesOpening R.form over.now least level n seen.old) }
     ensures marked { IsOk result → AreMarked seen.old (n ∷ []) seen.new }
     ensures long { length seen.new ≡ length seen.old }
 {

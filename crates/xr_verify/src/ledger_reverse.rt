@@ -1,7 +1,7 @@
 //! The ledger of runs and their owners: where the last run ends of each line of each owner. Runs of one owner are held
 //! against each other only where the offsets run on with the blocks, so each has its line.
 ghost use Rattle.std.specs.Prelude.{◌≡◌, ◌<◌, replicate, IsTrue};
-ghost use Rattle.xr_verify.specs.OwnedRuns.{line_of};
+ghost use Rattle.xr_verify.specs.OwnedRuns.{ledger_line};
 ghost use Rattle.xr_kinds.specs.Reverse.{is_reverse};
 
 use crate::ledger::{Kept, Ledger};
@@ -26,9 +26,9 @@ fn no_ends() -> [u16; LINES]
 }
 
 /// The line of a run.
-fn line_of(r: &Reverse) -> usize
+fn ledger_line(r: &Reverse) -> usize
     requires { IsTrue (is_reverse r.now) }
-    ensures value { result ≡ line_of r.now }
+    ensures value { result ≡ ledger_line r.now }
     ensures within { result < LINES }
 {
     if r.owner == OWN_COW {
@@ -49,11 +49,11 @@ impl Ledger<Reverse> for ReverseLedger {
     }
 
     fn admits(&self, r: &Reverse) -> bool {
-        u32::from(self.ends[line_of(r)]) < r.start
+        u32::from(self.ends[ledger_line(r)]) < r.start
     }
 
     fn note(&mut self, r: &Reverse) {
-        self.ends[line_of(r)] = (r.start + r.len) as u16;
+        self.ends[ledger_line(r)] = (r.start + r.len) as u16;
     }
 }
 

@@ -1,11 +1,13 @@
 //! The records of a tree as they are passed, leaf by leaf: each has to be above the one before it and to agree with all.
-ghost use Rattle.std.specs.Prelude.{◌≡◌, ℕ, ◌+◌, ◌<◌, ◌≤◌, ◌↔◌, ◌++◌, [], List, length, slice_index_or, IsOk, IsTrue, IfSome, None};
+ghost use Rattle.std.specs.Prelude.{◌≡◌, ℕ, ◌+◌, ◌<◌, ◌≤◌, ◌↔◌, ◌++◌, [], List, length, slice_index_or, IsOk, IsTrue, IfErr, IfSome, None};
 ghost use Rattle.std.specs.List.{last_or};
 ghost use Rattle.std.specs.declared.cmp.Ordering.TheVariants.{Less};
 ghost use Rattle.xr_block.specs.Checks.{HoldsRecords};
 ghost use Rattle.xr_verify.specs.Ledger.{ArePassed, Climb};
 ghost use Rattle.xr_verify.specs.Passed.{AreNoted, IsPast};
+ghost use Rattle.xr_block.specs.declared.fault.TreeKind.TheVariants.{Bound};
 ghost use Rattle.xr_block.specs.TreeBlock.{count_in, records_in};
+ghost use Rattle.xr_verify.specs.Refusals.{RefusesRecords};
 
 use crate::ledger::Ledger;
 use xr_block::fault::TreeKind;
@@ -99,6 +101,8 @@ impl<R: Record, L: Ledger<R>> Passed<R, L> {
             → (IsOk result ↔ ArePassed R.form (noted ++ records_in R.form block.now)) }
         ensures noted { (noted : List R) → AreNoted R.form L.notes self.old noted → IsOk result
             → AreNoted R.form L.notes self.new (noted ++ records_in R.form block.now) }
+        ensures refused { (noted : List R) → AreNoted R.form L.notes self.old noted
+            → IfErr result (RefusesRecords R.form noted (records_in R.form block.now)) }
         ensures room { self.new.room ≡ self.old.room }
     {
         if !climb::<R>(block, self.last) {
@@ -114,6 +118,7 @@ impl<R: Record, L: Ledger<R>> Passed<R, L> {
     /// Takes the room of the records of a leaf, if the tree has it.
     pub(crate) fn take_room(&mut self, count: usize) -> Result<(), TreeKind>
         ensures enough { IsOk result ↔ count ≤ self.old.room }
+        ensures refused { IfErr result (λ kind. kind ≡ Bound) }
         ensures less { IsOk result → self.new.room + count ≡ self.old.room }
         ensures last { self.new.last ≡ self.old.last }
         ensures ledger { self.new.ledger ≡ self.old.ledger }

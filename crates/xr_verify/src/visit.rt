@@ -1,7 +1,7 @@
 //! Whether the blocks below a root are a tree. Each block is visited before its children, from left to right, and each is
 //! tested before its pointers are followed. No memory is taken: the ledger of the records stands on the stack.
 ghost use Rattle.std.specs.Prelude.{◌≡◌, ℕ, ◌+◌, ◌*◌, ◌-◌, ◌<◌, ◌≤◌, ◌==◌, ◌&&◌, ◌↔◌, ◌++◌};
-ghost use Rattle.std.specs.Prelude.{[], ◌∷◌, true, false, None, length, List, IsOk, IfOk, IfSome};
+ghost use Rattle.std.specs.Prelude.{[], ◌∷◌, true, false, None, length, List, IsOk, Err, IfErr, IfOk, IfSome};
 ghost use Rattle.std.specs.List.{All, Contains};
 ghost use Rattle.xr_pool.specs.Bits.{has_bit};
 ghost use Rattle.xr_kinds.specs.Form.{key_size};
@@ -11,6 +11,8 @@ ghost use Rattle.xr_verify.specs.Passed.{IsPast};
 ghost use Rattle.xr_block.specs.Rows.{min_records, key_held};
 ghost use Rattle.xr_block.specs.Tree.{AreRecords, IsTreeIn, blocks_of, least_of_root, records_of, tree_blocks, tree_held};
 ghost use Rattle.xr_block.specs.TreeBlock.{count_in, records_in};
+ghost use Rattle.xr_verify.specs.Refusals.{RefusesBelow, RefusesChildren, RefusesLeafAfter, RefusesNodeAfter};
+ghost use Rattle.xr_verify.specs.Refusals.{RefusesPlace, RefusesPointer, RefusesTree};
 ghost use Rattle.xr_verify.specs.Visits.{AreMarked, AreNamedFrom, AreSound, IsEntered, IsLinked, children};
 ghost use Rattle.xr_verify.specs.Visits.{last_below, HasChildren, IsChecked, IsKeyOf};
 ghost use Rattle.xr_block.specs.Trees.{IsOwnTree, Marks, blocks_of_tree};
@@ -45,7 +47,10 @@ fn check_place<R: Record>(
     requires within { spot.number < pool_size over.now }
     requires tested { (least : ℕ) × IsChecked R.form over.now least level spot.number }
     requires long { IfSome key (λ k. length k.now ≡ key_size R.form) }
-    ensures { IsOk result ↔ (IsKeyOf R.form over.now level spot.number key.entry × IsLinked R.form over.now spot.left spot.last spot.number) }
+    ensures right { IsOk result
+        ↔ (IsKeyOf R.form over.now level spot.number key.entry × IsLinked R.form over.now spot.left spot.last spot.number) }
+    ensures refused { IfErr result
+        (RefusesPlace R.form over.now spot.left spot.last spot.number (IsKeyOf R.form over.now level spot.number key.entry)) }
 {
     if !is_named::<R>(over, spot.number, level, key) {
         Err(TreeKind::Key)
@@ -71,6 +76,9 @@ fn enter_leaf<R: Record, L: Ledger<R>>(
     ensures rules { (noted : List R) → IsPast R.form L.notes passed.old noted
         → (IsOk result ↔ (IsEntered R.form over.now spot.least 0 spot.left spot.last spot.number seen.old
         × IsKeyOf R.form over.now 0 spot.number key.entry × AreRecords R.form (noted ++ records_in R.form (block_at over.now spot.number)))) }
+    ensures refused { (noted : List R) → IsPast R.form L.notes passed.old noted
+        → IfErr result (RefusesLeafAfter R.form over.now spot.least spot.left spot.last spot.number
+        (IsKeyOf R.form over.now 0 spot.number key.entry) seen.old noted) }
     ensures past { (noted : List R) → IsPast R.form L.notes passed.old noted → IsOk result
         → IsPast R.form L.notes passed.new (noted ++ records_in R.form (block_at over.now spot.number)) }
     ensures marked { IsOk result → AreMarked seen.old (spot.number ∷ []) seen.new }
@@ -97,6 +105,9 @@ fn enter_node<R: Record>(
     requires long { IfSome key (λ k. length k.now ≡ key_size R.form) }
     ensures rules { IsOk result ↔ (IsEntered R.form over.now spot.least level spot.left spot.last spot.number seen.old
         × IsKeyOf R.form over.now level spot.number key.entry) }
+    ensures refused { IfErr result
+        (RefusesNodeAfter R.form over.now spot.least level spot.left spot.last spot.number
+        (IsKeyOf R.form over.now level spot.number key.entry) seen.old) }
     ensures marked { IsOk result → AreMarked seen.old (spot.number ∷ []) seen.new }
     ensures long { length seen.new ≡ length seen.old }
 {
@@ -107,7 +118,8 @@ fn enter_node<R: Record>(
 /// What is wrong with a block, with the image block that shows it.
 fn at_block(over: &Overlay, n: u32, tested: Result<(), TreeKind>) -> Result<(), TreeFault>
     requires { n < pool_size over.now }
-    ensures { IsOk result ↔ IsOk tested }
+    ensures same { IsOk result ↔ IsOk tested }
+    ensures named { IfErr tested (λ kind. result ≡ Err (record { block = over.now.first + n; kind = kind })) }
 {
     match tested {
         Ok(()) => Ok(()),
@@ -122,6 +134,7 @@ fn at_block(over: &Overlay, n: u32, tested: Result<(), TreeKind>) -> Result<(), 
 fn in_pool(over: &Overlay, n: u32, pointer: u64) -> Result<u32, TreeFault>
     requires { n ≤ pool_size over.now }
     ensures within { IsOk result ↔ (1 ≤ pointer) × (pointer < pool_size over.now) }
+    ensures refused { IfErr result (RefusesPointer over.now n pointer) }
     ensures value { IfOk result (λ number. number ≡ pointer) }
     ensures from { IfOk result (λ number. 1 ≤ number) }
     ensures below { IfOk result (λ number. number < pool_size over.now) }
@@ -182,6 +195,8 @@ fn visit_children<R: Record, L: Ledger<R>>(
         → (IsOk result
         ↔ (AreSound R.form over.now (min_records R.form level) level (last_below R.form over.now node.left) node.last
         (children R.form over.now node.number) seen.old noted × AreNamedFrom R.form over.now level node.number 0)) }
+    ensures refused { (noted : List R) → IsPast R.form L.notes passed.old noted
+        → IfErr result (RefusesChildren R.form over.now level node.number node.left node.last seen.old noted) }
     ensures past { (noted : List R) → IsPast R.form L.notes passed.old noted → IsOk result
         → IsPast R.form L.notes passed.new (noted ++ records_of R.form over.now level (children R.form over.now node.number)) }
     ensures marked { IsOk result → AreMarked seen.old (blocks_of R.form over.now level (children R.form over.now node.number)) seen.new }
@@ -229,6 +244,9 @@ fn visit<R: Record, L: Ledger<R>>(
     ensures rules { (noted : List R) → IsPast R.form L.notes passed.old noted
         → (IsOk result ↔ (AreSound R.form over.now spot.least level spot.left spot.last (spot.number ∷ []) seen.old noted
         × IsKeyOf R.form over.now level spot.number key.entry)) }
+    ensures refused { (noted : List R) → IsPast R.form L.notes passed.old noted
+        → IfErr result (RefusesBelow R.form over.now level spot.least spot.left spot.last spot.number
+        (IsKeyOf R.form over.now level spot.number key.entry) seen.old noted) }
     ensures past { (noted : List R) → IsPast R.form L.notes passed.old noted → IsOk result
         → IsPast R.form L.notes passed.new (noted ++ records_of R.form over.now level (spot.number ∷ [])) }
     ensures marked { IsOk result → AreMarked seen.old (blocks_of R.form over.now level (spot.number ∷ [])) seen.new }
@@ -264,6 +282,7 @@ fn root_spot(root: u32, level: u32) -> Spot
 fn visit_root<R: Kept>(over: &Overlay, root: Root, seen: &mut [u8]) -> Result<(), TreeFault>
     requires { pool_size over.now ≤ 8 * length seen.old }
     ensures right { IsOk result ↔ IsOwnTree R.form over.now root seen.old }
+    ensures refused { IfErr result (RefusesTree R.form over.now root seen.old) }
     ensures marked { IsOk result → AreMarked seen.old (blocks_of_tree R.form over.now root) seen.new }
     ensures long { length seen.new ≡ length seen.old }
 {
@@ -275,11 +294,12 @@ fn visit_root<R: Kept>(over: &Overlay, root: Root, seen: &mut [u8]) -> Result<()
 }
 
 /// Ok where the blocks below a root are a tree and none of them is marked in `seen`, which has a bit for each block of the
-/// pool: bit `n % 8` of byte `n / 8`, the lowest first, for block `n`. The tree's blocks are marked there. After a fault
-/// `seen` may hold any marks.
+/// pool: bit `n % 8` of byte `n / 8`, the lowest first, for block `n`. The tree's blocks are marked there. A refusal names the
+/// first block that breaks a rule, as they are visited, and the first rule that it breaks. After it `seen` may hold any marks.
 pub fn verify<R: Kept>(over: &Overlay, root: Root, seen: &mut [u8]) -> Result<(), TreeFault>
     requires { pool_size over.now ≤ 8 * length seen.old }
     ensures right { IsOk result ↔ IsOwnTree R.form over.now root seen.old }
+    ensures refused { IfErr result (RefusesTree R.form over.now root seen.old) }
     ensures long { length seen.new ≡ length seen.old }
     ensures marked { IsOk result → Marks seen.old (blocks_of_tree R.form over.now root) seen.new }
 {

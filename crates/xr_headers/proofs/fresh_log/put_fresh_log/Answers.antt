@@ -1,7 +1,7 @@
 use Rattle.std.proofs.Common.{◌≡◌, ◌∙◌, ℕ, take, sym, ap, arith}
 use Rattle.std.proofs.lemmas.List.{length-take-le}
 use Rattle.xr_base.specs.declared.geometry.TheConstants.{BLOCK_BYTES}
-use Rattle.xr_base.specs.declared.layout.TheConstants.{RECORD_CRC}
+use Rattle.xr_base.specs.declared.layout.TheConstants.{RECORD_CRC_PLACE}
 use Rattle.xr_headers.specs.PaddedLaws.{length-with_crc_padded}
 use Rattle.xr_headers.specs.FreshImage.{unmount_fields}
 use Rattle.xr_headers.specs.Padded.{with_crc, zero_padded}
@@ -18,7 +18,7 @@ pub returns : goal.returns
 returns c =
     let fields = unmount_fields c.args.uuid.now c.args.cycle in
     let laid : c.lay_record.new.out ≡ zero_padded BLOCK_BYTES fields = c.lay_record.ensures.is ∙ ap (λ (n : ℕ). zero_padded n fields) c.requires in
-    let two : c.seal.new.out ≡ with_crc RECORD_CRC (zero_padded 1024 fields) =
-    c.seal.ensures ∙ ap (with_crc RECORD_CRC) (ap (take 1024) laid ∙ take-zero_padded 1024 BLOCK_BYTES fields (omega arith)) in
-    zero_padded_over BLOCK_BYTES 1024 fields (with_crc RECORD_CRC (zero_padded 1024 fields)) c.seal.new.out c.lay_record.new.out two laid
-    (length-with_crc_padded RECORD_CRC 1024 fields (omega arith)) (omega (arith, c.lay_record.ensures.long)) (omega arith)
+    let two : c.seal.new.out ≡ with_crc RECORD_CRC_PLACE (zero_padded 1024 fields) =
+    c.seal.ensures ∙ ap (with_crc RECORD_CRC_PLACE) (ap (take 1024) laid ∙ take-zero_padded 1024 BLOCK_BYTES fields (omega arith)) in
+    zero_padded_over BLOCK_BYTES 1024 fields (with_crc RECORD_CRC_PLACE (zero_padded 1024 fields)) c.seal.new.out c.lay_record.new.out two laid
+    (length-with_crc_padded RECORD_CRC_PLACE 1024 fields (omega arith)) (omega (arith, c.lay_record.ensures.long)) (omega arith)

@@ -4,4 +4,4 @@ use Rattle.xr_verify.proofs.ledger_reverse.ReverseLedgerLedgerReverse.note.Goals
 
 pub returns : goal.returns
 returns c = λ noted holds next agrees.
-    ends_more noted c.args.self.now.ends _ c.args.r.now c.line_of.result _ holds next agrees c.line_of.ensures.value refl c.line_of.ensures.within refl
+    ends_more noted c.args.self.now.ends _ c.args.r.now c.ledger_line.result _ holds next agrees c.ledger_line.ensures.value refl c.ledger_line.ensures.within refl
