@@ -2,10 +2,12 @@ pub mod Counts
 pub mod Extents
 pub mod FileMapLaws
 pub mod FileMaps
+pub mod Holdings
 pub mod Owners
 pub mod RecordLaws
 pub mod Records
 pub mod RunLaws
 pub mod Runs
+pub mod StepLaws
 pub mod Steps
 pub mod Tables

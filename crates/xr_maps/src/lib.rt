@@ -11,6 +11,6 @@ mod steps;
 mod tables;
 
 pub use file_maps::Maps;
-pub use laws::records_are_determined;
+pub use laws::{records_are_determined, steps_are_balances};
 pub use records::{Counted, Extent, Rev};
 pub use steps::{Step, fits};

@@ -1,0 +1,15 @@
+pub mod Chains
+pub mod Determined
+pub mod ExchangeRolls
+pub mod FirstGives
+pub mod Fresh
+pub mod Lanes
+pub mod Ready
+pub mod RollGives
+pub mod RollLaws
+pub mod Rolls
+pub mod Rows
+pub mod Settled
+pub mod Stagings
+pub mod Waiting
+pub mod Works
