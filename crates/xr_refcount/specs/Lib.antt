@@ -1,0 +1,5 @@
+pub mod Calls
+pub mod CountLaws
+pub mod Counts
+pub mod Marks
+pub mod Refcount

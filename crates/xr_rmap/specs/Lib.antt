@@ -1,0 +1,4 @@
+pub mod Joins
+pub mod PairLaws
+pub mod Pairs
+pub mod Rmap
