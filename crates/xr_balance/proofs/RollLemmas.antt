@@ -9,7 +9,7 @@ use Rattle.xr_items.specs.declared.work.Work.TheVariants.{Free, Own, Count, Map,
 use Rattle.xr_items.specs.declared.work.CountKind.TheVariants.{Increase, Decrease, AllocCow, FreeCow}
 use Rattle.xr_items.specs.Valid.{IsWork}
 use Rattle.xr_maps.specs.Holdings.{one_if}
-use Rattle.xr_balance.specs.RollGives.{Keeps, Moves, RollsPlain}
+use Rattle.xr_balance.specs.RollGives.{KeepsCommitted, Moves, RollsPlain}
 use Rattle.xr_balance.specs.Rolls.{Rolls}
 use Rattle.xr_balance.specs.Settled.{BlocksAgree, Committed, CountsSettle, IsPartedByLane, IsSettled, bringing, count_of, taking}
 use Rattle.xr_balance.specs.Works.{Debt, exchanging_at, freed, lowered, mapping, mapping_at, naming, pairing, pairing_at, raised, staging, staging_pair, staging_unpair, total, unmapping, unmapping_at, unpairing, unpairing_at, unstaging}
@@ -40,7 +40,7 @@ none_counting f a b c (Map kind file off r ∷ new) are = absurd are.0
 none_counting f a b c (Swap file off other other_off len ∷ new) are = absurd are.0
 
 -- blocks are told by what is read from them
-pub rebuilt : (C C' : Committed) (counts : ℕ → ℕ) (free : ℕ → Bool) → Keeps C C' → ((b : ℕ) → C'.counted b ≡ counts b) → ((b : ℕ) → C'.is_free b ≡ free b)
+pub rebuilt : (C C' : Committed) (counts : ℕ → ℕ) (free : ℕ → Bool) → KeepsCommitted C C' → ((b : ℕ) → C'.counted b ≡ counts b) → ((b : ℕ) → C'.is_free b ≡ free b)
     → C' ≡ record C { counted = counts; is_free = free }
 rebuilt C C' counts free keeps counted frees = λ i. record {
   groups = keeps.groups i;

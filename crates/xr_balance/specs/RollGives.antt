@@ -33,7 +33,7 @@ pub record Moves (C : Committed) (w : Work) (C' : Committed) : Type 0 where
   pub staged : (b : ℕ) → one_if (C'.is_staged b) + unstaging b w ≡ one_if (C.is_staged b) + staging b w
 
 -- the files' maps, the owners and what is staged stay
-pub record Keeps (C C' : Committed) : Type 0 where
+pub record KeepsCommitted (C C' : Committed) : Type 0 where
   pub groups : C'.groups ≡ C.groups
   pub maps : C'.maps ≡ C.maps
   pub pairs : (f o b : ℕ) → C'.has_pair f o b ≡ C.has_pair f o b
@@ -51,7 +51,7 @@ pub record RollsRaise (C : Committed) (run : Run) (C' : Committed) (new : List W
   pub len : ℕ
   pub count : ℕ
   pub part : IsEqualPart C run len count
-  pub keeps : Keeps C C'
+  pub keeps : KeepsCommitted C C'
   pub free : (b : ℕ) → C'.is_free b ≡ C.is_free b
   pub counted : (b : ℕ) → C'.counted b ≡ C.counted b + in_run b (run_front run len)
   pub new_is : new ≡ works_of_rest Increase run len
@@ -61,14 +61,14 @@ pub record RollsLower (C : Committed) (run : Run) (C' : Committed) (new : List W
   pub count : ℕ
   pub part : IsEqualPart C run len count
   pub some : 0 < count
-  pub keeps : Keeps C C'
+  pub keeps : KeepsCommitted C C'
   pub free : (b : ℕ) → C'.is_free b ≡ C.is_free b
   -- a count of one is no record: where its owner goes the blocks are to be given
   pub counted : (b : ℕ) → C'.counted b ≡ (if count == 1 then C.counted b else C.counted b - in_run b (run_front run len))
   pub new_is : new ≡ (if count == 1 then works_of_freed run len else works_of_rest Decrease run len)
 
 pub record RollsFree (C : Committed) (run : Run) (C' : Committed) (new : List Work) : Type 0 where
-  pub keeps : Keeps C C'
+  pub keeps : KeepsCommitted C C'
   pub counted : (b : ℕ) → C'.counted b ≡ C.counted b
   pub free : (b : ℕ) → C'.is_free b ≡ (C.is_free b || is_within run.start.0 run.len b)
   pub new_is : new ≡ []
@@ -76,7 +76,7 @@ pub record RollsFree (C : Committed) (run : Run) (C' : Committed) (new : List Wo
 -- an exchange changes no block, and leaves a piece in its place: the base changes
 pub record RollsSwap (C : Committed) (P : List Debt) (M B : FileMaps) (i : ℕ) (w : Work) (C' : Committed) (new : List Work) : Type 0 where
   pub base : FileMaps
-  pub keeps : Keeps C C'
+  pub keeps : KeepsCommitted C C'
   pub counted : (b : ℕ) → C'.counted b ≡ C.counted b
   pub free : (b : ℕ) → C'.is_free b ≡ C.is_free b
   pub exchange : RollsExchange C P M B i w new base

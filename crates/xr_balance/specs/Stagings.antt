@@ -7,7 +7,7 @@ use Rattle.xr_maps.specs.FileMaps.{FileMaps}
 use Rattle.xr_maps.specs.Holdings.{in_run, one_if}
 use Rattle.xr_balance.specs.Chains.{IsChain}
 use Rattle.xr_balance.specs.Lanes.{LanesHold}
-use Rattle.xr_balance.specs.RollGives.{Keeps}
+use Rattle.xr_balance.specs.RollGives.{KeepsCommitted}
 use Rattle.xr_balance.specs.Rolls.{in_lane}
 use Rattle.xr_balance.specs.Rows.{works_of_release, works_of_staging}
 use Rattle.xr_balance.specs.Settled.{Committed, IsSettled, chain_of}
@@ -26,7 +26,7 @@ pub record Stages (C : Committed) (P : List Debt) (Q : ℕ → Bool) (lane : ℕ
   pub begins : BeginsChain P lane (works_of_staging run) P'
   pub good : IsGoodRun run
   pub group : group_number run.start < C.groups
-  pub keeps : Keeps C C'
+  pub keeps : KeepsCommitted C C'
   pub counted : (b : ℕ) → C'.counted b ≡ C.counted b
   pub free : (b : ℕ) → one_if (C'.is_free b) + in_run b run ≡ one_if (C.is_free b)
   pub staged : (b : ℕ) → one_if (Q' b) ≡ one_if (Q b) + in_run b run

@@ -7,7 +7,7 @@ use Rattle.xr_base.specs.Image.{overlaid}
 use Rattle.xr_base.specs.declared.geometry.TheConstants.{BLOCK_BYTES}
 use Rattle.xr_block.specs.BlockLaws.{drop_overlaid, fields_fill, length-header, length-sibling}
 use Rattle.xr_kinds.specs.Form.{Form, header_size, pointer_size}
-use Rattle.xr_block.specs.TreeBlock.{Place, Site, zero_padded, header, sibling, crc_place, tree_block}
+use Rattle.xr_block.specs.TreeBlock.{Place, Site, zero_filled, header, sibling, crc_place, tree_block}
 use Rattle.xr_block.specs.CheckLaws.{block_laid, front, laid, laid_after, laid_block, laid_front, rest_of, IsHeaderLaid}
 use Rattle.xr_block.specs.Edits.{IsHeader, sealed, with_left}
 use Rattle.xr_block.specs.SealLaws.{drop_summed, take_summed}
@@ -165,7 +165,7 @@ header_of form site place fields count start links placed owned names is_start i
 
 -- a block that is built of its header and its items
 pub built_block : {X : Type 0} (form : Form X) (site : Site) (place : Place) (count room : ℕ) (items head area : List ℕ) → length site.uuid ≡ 16
-    → head ≡ header form site place count → area ≡ zero_padded room items → room + header_size form ≡ BLOCK_BYTES
+    → head ≡ header form site place count → area ≡ zero_filled room items → room + header_size form ≡ BLOCK_BYTES
     → sealed form (head ++ area) ≡ tree_block form site place count items
 unfolding tree_block
 built_block form site place count room items head area identified heads areas rooms =

@@ -10,7 +10,7 @@ use Rattle.xr_base.specs.Image.{part}
 use Rattle.xr_base.specs.declared.geometry.TheConstants.{BLOCK_BYTES}
 use Rattle.xr_block.specs.BlockLaws.{length-items}
 use Rattle.xr_kinds.specs.Form.{Form, IsForm, header_size}
-use Rattle.xr_block.specs.TreeBlock.{Place, Site, count_in, zero_padded, header, tree_block}
+use Rattle.xr_block.specs.TreeBlock.{Place, Site, count_in, zero_filled, header, tree_block}
 use Rattle.xr_block.specs.Edits.{IsHeader, IsLeafOf, sealed}
 use Rattle.xr_block.specs.SealLaws.{sealed_count, sealed_rest}
 use Rattle.xr_block.specs.declared.header.Header.{Header}
@@ -38,7 +38,7 @@ stretch_size size from to order =
 module _ {X : Type 0} (form : Form X) (laws : IsForm form) (site : Site) (place : Place) (fields : Header) (names : IsHeader fields site place)
     (count room : ℕ) (head area : List ℕ) (heads : head ≡ header form site place count) (rooms : room + header_size form ≡ BLOCK_BYTES) where
   pub leaf_built : (listed : List X) (bytes : List ℕ) → All (λ (r : X). form.is_valid r ≡ true) listed → bytes ++ [] ≡ flat_map form.bytes_of listed
-      → length bytes ≤ form.size * form.leaf_max → count ≡ length bytes / form.size → area ≡ zero_padded room (bytes ++ [])
+      → length bytes ≤ form.size * form.leaf_max → count ≡ length bytes / form.size → area ≡ zero_filled room (bytes ++ [])
       → IsLeafOf form site place listed (sealed form (head ++ area))
   leaf_built listed bytes valid same few counted areas =
       let long : length bytes ≡ form.size * length listed = ap length (sym (append-nil bytes) ∙ same) ∙ length-items form.bytes_of form.size listed laws.sized ∙ omega arith in
@@ -47,7 +47,7 @@ module _ {X : Type 0} (form : Form X) (laws : IsForm form) (site : Site) (place 
         identified = names.identified;
         valid = valid;
         few = least_factor form.size (length listed) form.leaf_max laws.size_some (omega (arith, long, few));
-        whole = built_block form site place count room (flat_map form.bytes_of listed) head area names.identified heads (areas ∙ ap (zero_padded room) same) rooms
+        whole = built_block form site place count room (flat_map form.bytes_of listed) head area names.identified heads (areas ∙ ap (zero_filled room) same) rooms
             ∙ ap (λ (n : ℕ). tree_block form site place n (flat_map form.bytes_of listed)) number;
       }
 
@@ -65,7 +65,7 @@ module _ {X : Type 0} (form : Form X) (laws : IsForm form) (site : Site) (place 
       → length first ≡ BLOCK_BYTES → length second ≡ BLOCK_BYTES → IsLeafOf form site one xs (sealed form first) → IsLeafOf form site other ys (sealed form second)
       → front ≡ part (header_size form) (form.size * count_in first) first → after ≡ part (header_size form) (form.size * count_in second) second
       → from ≤ to → to ≤ count_in first + count_in second → to - from ≤ form.leaf_max → count ≡ to - from
-      → area ≡ zero_padded room (part (form.size * from) (form.size * to - form.size * from) (front ++ after))
+      → area ≡ zero_filled room (part (form.size * from) (form.size * to - form.size * from) (front ++ after))
       → IsLeafOf form site place (take (to - from) (drop from (xs ++ ys))) (sealed form (head ++ area))
   leaf_gathered one other xs ys from to first second front after full_first full_second is_first is_second fronts rests order within few counted areas =
       let IsValid = λ (r : X). form.is_valid r ≡ true in
@@ -91,6 +91,6 @@ module _ {X : Type 0} (form : Form X) (laws : IsForm form) (site : Site) (place 
         identified = names.identified;
         valid = All-take IsValid (to - from) (drop from items) (All-drop IsValid from items (All-append IsValid xs ys is_first.valid is_second.valid));
         few = omega (arith, size, few);
-        whole = built_block form site place count room (flat_map form.bytes_of next) head area names.identified heads (areas ∙ ap (zero_padded room) part_is) rooms
+        whole = built_block form site place count room (flat_map form.bytes_of next) head area names.identified heads (areas ∙ ap (zero_filled room) part_is) rooms
             ∙ ap (λ (n : ℕ). tree_block form site place n (flat_map form.bytes_of next)) (counted ∙ sym size);
       }

@@ -8,7 +8,7 @@ use Rattle.std.specs.List.{All, flat_map, insert, remove}
 use Rattle.xr_base.specs.Image.{overlaid}
 use Rattle.xr_base.specs.declared.geometry.TheConstants.{BLOCK_BYTES}
 use Rattle.xr_kinds.specs.Form.{Form, IsForm, header_size}
-use Rattle.xr_block.specs.TreeBlock.{Place, Site, count_in, zero_padded, tree_block}
+use Rattle.xr_block.specs.TreeBlock.{Place, Site, count_in, zero_filled, tree_block}
 use Rattle.xr_block.specs.Edits.{IsLeafOf, sealed}
 use Rattle.xr_block.specs.ItemBytes.{with_item, without_item}
 use Rattle.xr_block.specs.SealLaws.{sealed_count, sealed_rest}
@@ -26,7 +26,7 @@ module _ {X : Type 0} (form : Form X) (laws : IsForm form) (site : Site) (place 
   room = BLOCK_BYTES - header_size form
 
   pub leaf_edited : (next : List X) (count : ℕ) (area : List ℕ) → All IsValid next → length next ≤ form.leaf_max → count ≡ length next
-      → area ≡ zero_padded room (flat_map form.bytes_of next) → IsLeafOf form site place next (sealed form (edited count head area))
+      → area ≡ zero_filled room (flat_map form.bytes_of next) → IsLeafOf form site place next (sealed form (edited count head area))
   leaf_edited next count area valid few counted filled_area = record {
     identified = is.identified;
     valid = valid;
@@ -37,7 +37,7 @@ module _ {X : Type 0} (form : Form X) (laws : IsForm form) (site : Site) (place 
         long is.whole (filled_area ∙ sym (rest_filled form (flat_map form.bytes_of next)));
   }
 
-  pub leaf_kept : (next : List X) (area : List ℕ) → All IsValid next → length next ≡ length records → area ≡ zero_padded room (flat_map form.bytes_of next)
+  pub leaf_kept : (next : List X) (area : List ℕ) → All IsValid next → length next ≡ length records → area ≡ zero_filled room (flat_map form.bytes_of next)
       → IsLeafOf form site place next (sealed form (head ++ area))
   leaf_kept next area valid same filled_area = record {
     identified = is.identified;
@@ -53,7 +53,7 @@ module _ {X : Type 0} (form : Form X) (laws : IsForm form) (site : Site) (place 
   counts = sym (sealed_count form bytes long) ∙ leaf_count form laws site place (sealed form bytes) records is
 
   -- the records' bytes are those that an edit finds
-  found : {Y : Type 0} (f : List ℕ → Y) → f rest ≡ f (zero_padded room (flat_map form.bytes_of records))
+  found : {Y : Type 0} (f : List ℕ → Y) → f rest ≡ f (zero_filled room (flat_map form.bytes_of records))
   found f = ap f (parts.rests ∙ ap (λ (n : ℕ). drop n bytes) parts.starts ∙ sym (sealed_rest form bytes long))
       ∙ ap f (leaf_rest form laws site place (sealed form bytes) records is)
 
@@ -69,7 +69,7 @@ module _ {X : Type 0} (form : Form X) (laws : IsForm form) (site : Site) (place 
       (omega (arith, length-insert records k r (omega (arith, within, counts)), few, counts))
       (omega (arith, length-insert records k r (omega (arith, within, counts)), more, counted, counts))
       (is_area ∙ found (with_item (form.size * k) (form.size * count) (form.bytes_of r))
-      ∙ ap (λ (n : ℕ). with_item (form.size * k) (form.size * n) (form.bytes_of r) (zero_padded room (flat_map form.bytes_of records))) (counted ∙ counts)
+      ∙ ap (λ (n : ℕ). with_item (form.size * k) (form.size * n) (form.bytes_of r) (zero_filled room (flat_map form.bytes_of records))) (counted ∙ counts)
       ∙ put_items form.bytes_of form.size room k records r (λ i d _. laws.sized _) (laws.sized r) (omega (arith, within, counts)) (omega (arith, most, laws.leaf_fits)))
 
   pub record_removed : (k count next : ℕ) (area : List ℕ) → count ≡ count_in bytes → k < count_in bytes → next ≡ count - 1
@@ -84,7 +84,7 @@ module _ {X : Type 0} (form : Form X) (laws : IsForm form) (site : Site) (place 
       (omega (arith, left, is.few))
       (omega (arith, left, less, counted, counts))
       (is_area ∙ found (without_item (form.size * k) (form.size * count) form.size)
-      ∙ ap (λ (n : ℕ). without_item (form.size * k) (form.size * n) form.size (zero_padded room (flat_map form.bytes_of records))) (counted ∙ counts)
+      ∙ ap (λ (n : ℕ). without_item (form.size * k) (form.size * n) form.size (zero_filled room (flat_map form.bytes_of records))) (counted ∙ counts)
       ∙ removed_items form.bytes_of form.size room k records (λ i d _. laws.sized _) (omega (arith, within, counts)) (omega (arith, most, laws.leaf_fits)))
 
   pub record_set : (k : ℕ) (r : X) (area : List ℕ) → k < count_in bytes → form.is_valid r ≡ true

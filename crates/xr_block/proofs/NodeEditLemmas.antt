@@ -10,9 +10,9 @@ use Rattle.byteorder.specs.Endian.{big_bytes}
 use Rattle.byteorder.specs.Numbers.{length-bytes_high_first}
 use Rattle.xr_base.specs.Image.{overlaid}
 use Rattle.xr_base.specs.declared.geometry.TheConstants.{BLOCK_BYTES}
-use Rattle.xr_block.specs.BlockLaws.{AreEntries, length-zero_padded}
+use Rattle.xr_block.specs.BlockLaws.{AreEntries, length-zero_filled}
 use Rattle.xr_kinds.specs.Form.{Form, IsForm, header_size, key_size, pointer_size}
-use Rattle.xr_block.specs.TreeBlock.{Entry, Place, Site, count_in, zero_padded, node_items, tree_block}
+use Rattle.xr_block.specs.TreeBlock.{Entry, Place, Site, count_in, zero_filled, node_items, tree_block}
 use Rattle.xr_block.specs.Edits.{IsNodeOf, first_keyed, sealed, with_key}
 use Rattle.xr_block.specs.ItemBytes.{with_item, without_item}
 use Rattle.xr_block.specs.SealLaws.{sealed_count, sealed_rest}
@@ -49,7 +49,7 @@ module _ {X : Type 0} (form : Form X) (laws : IsForm form) (site : Site) (place 
   room = BLOCK_BYTES - header_size form - key_room form
 
   pub node_edited : (next : List Entry) (count : ℕ) (area : List ℕ) → AreEntries form next → length next ≤ form.node_max → count ≡ length next
-      → area ≡ zero_padded (key_room form) (keys_of next) ++ zero_padded room (pointers_of form next) → IsNodeOf form site place next (sealed form (edited count head area))
+      → area ≡ zero_filled (key_room form) (keys_of next) ++ zero_filled room (pointers_of form next) → IsNodeOf form site place next (sealed form (edited count head area))
   node_edited next count area fit few counted areas = record {
     identified = is.identified;
     fit = fit;
@@ -61,7 +61,7 @@ module _ {X : Type 0} (form : Form X) (laws : IsForm form) (site : Site) (place 
   }
 
   pub node_kept : (next : List Entry) (area : List ℕ) → AreEntries form next → length next ≡ length entries
-      → area ≡ zero_padded (key_room form) (keys_of next) ++ zero_padded room (pointers_of form next) → IsNodeOf form site place next (sealed form (head ++ area))
+      → area ≡ zero_filled (key_room form) (keys_of next) ++ zero_filled room (pointers_of form next) → IsNodeOf form site place next (sealed form (head ++ area))
   node_kept next area fit same areas =
       let few : length next ≤ form.node_max = omega (arith, same, is.few) in
       record {
@@ -78,19 +78,19 @@ module _ {X : Type 0} (form : Form X) (laws : IsForm form) (site : Site) (place 
   counts = sym (sealed_count form bytes long) ∙ node_count form laws site place (sealed form bytes) entries is
 
   -- the keys' bytes and the pointers' are those that an edit finds
-  found : rest ≡ zero_padded (key_room form) (keys_of entries) ++ zero_padded room (pointers_of form entries)
+  found : rest ≡ zero_filled (key_room form) (keys_of entries) ++ zero_filled room (pointers_of form entries)
   found = parts.rests ∙ ap (λ (n : ℕ). drop n bytes) parts.starts ∙ sym (sealed_rest form bytes long) ∙ node_rest form laws site place (sealed form bytes) entries is
 
-  length-found : length (zero_padded (key_room form) (keys_of entries)) ≡ key_room form
+  length-found : length (zero_filled (key_room form) (keys_of entries)) ≡ key_room form
   length-found =
-      length-zero_padded (key_room form) (keys_of entries)
+      length-zero_filled (key_room form) (keys_of entries)
       (omega (arith, length-keys form laws entries is.fit is.few, keys_fit form laws entries is.fit is.few))
 
-  found_keys : take (key_room form) rest ≡ zero_padded (key_room form) (keys_of entries)
-  found_keys = ap (take (key_room form)) found ∙ take_at (zero_padded (key_room form) (keys_of entries)) _ (key_room form) length-found
+  found_keys : take (key_room form) rest ≡ zero_filled (key_room form) (keys_of entries)
+  found_keys = ap (take (key_room form)) found ∙ take_at (zero_filled (key_room form) (keys_of entries)) _ (key_room form) length-found
 
-  found_pointers : drop (key_room form) rest ≡ zero_padded room (pointers_of form entries)
-  found_pointers = ap (drop (key_room form)) found ∙ drop_at (zero_padded (key_room form) (keys_of entries)) _ (key_room form) length-found
+  found_pointers : drop (key_room form) rest ≡ zero_filled room (pointers_of form entries)
+  found_pointers = ap (drop (key_room form)) found ∙ drop_at (zero_filled (key_room form) (keys_of entries)) _ (key_room form) length-found
 
   -- there is room for so many children
   roomy : (n : ℕ) → n ≤ form.node_max → (key_size form * n ≤ key_room form) × (pointer_size form * n ≤ room)
@@ -119,7 +119,7 @@ module _ {X : Type 0} (form : Form X) (laws : IsForm form) (site : Site) (place 
       ∙ ap (λ (xs : List ℕ). xs ++ with_item (p * k) (p * length entries) (big_bytes p child) (drop (key_room form) rest))
       (ap (with_item (key_size form * k) (key_size form * length entries) key) found_keys
       ∙ put_items (λ (x : Entry). x.key) (key_size form) (key_room form) k entries e (keys_sized form laws entries is.fit is.few) sized (omega (arith, within, counts)) rooms.0)
-      ∙ ap (λ (xs : List ℕ). zero_padded (key_room form) (keys_of (insert entries k e)) ++ xs)
+      ∙ ap (λ (xs : List ℕ). zero_filled (key_room form) (keys_of (insert entries k e)) ++ xs)
       (ap (with_item (p * k) (p * length entries) (big_bytes p child)) found_pointers
       ∙ put_items (λ (x : Entry). big_bytes p x.child) p room k entries e (pointers_sized form laws entries is.fit is.few) (length-bytes_high_first p child) (omega (arith, within, counts)) rooms.1))
 
@@ -142,7 +142,7 @@ module _ {X : Type 0} (form : Form X) (laws : IsForm form) (site : Site) (place 
       ∙ ap (λ (xs : List ℕ). xs ++ without_item (p * k) (p * length entries) p (drop (key_room form) rest))
       (ap (without_item (key_size form * k) (key_size form * length entries) (key_size form)) found_keys
       ∙ removed_items (λ (x : Entry). x.key) (key_size form) (key_room form) k entries (keys_sized form laws entries is.fit is.few) (omega (arith, within, counts)) rooms.0)
-      ∙ ap (λ (xs : List ℕ). zero_padded (key_room form) (keys_of (remove entries k)) ++ xs)
+      ∙ ap (λ (xs : List ℕ). zero_filled (key_room form) (keys_of (remove entries k)) ++ xs)
       (ap (without_item (p * k) (p * length entries) p) found_pointers
       ∙ removed_items (λ (x : Entry). big_bytes p x.child) p room k entries (pointers_sized form laws entries is.fit is.few) (omega (arith, within, counts)) rooms.1))
 
@@ -153,11 +153,11 @@ module _ {X : Type 0} (form : Form X) (laws : IsForm form) (site : Site) (place 
       let inside : k < length entries = omega (arith, within, counts) in
       let e : Entry = record { key = key; child = (get_or entries k d).child } in
       let next : List Entry = slice_set entries k e in
-      let keys : List ℕ = zero_padded (key_room form) (keys_of entries) in
-      let pointers : List ℕ = zero_padded room (pointers_of form entries) in
+      let keys : List ℕ = zero_filled (key_room form) (keys_of entries) in
+      let pointers : List ℕ = zero_filled room (pointers_of form entries) in
       let rooms = roomy (k + 1) (omega (arith, inside, is.few)) in
       let pointer = λ (x : Entry). big_bytes p x.child in
-      let over : overlaid (key_size form * k) key keys ≡ zero_padded (key_room form) (keys_of next) =
+      let over : overlaid (key_size form * k) key keys ≡ zero_filled (key_room form) (keys_of next) =
       set_items (λ (x : Entry). x.key) (key_size form) (key_room form) k entries e (keys_sized form laws entries is.fit is.few) sized inside in
       let same : pointers_of form next ≡ pointers_of form entries =
       ap (pointers_of form) (set_split entries k e inside) ∙ flat_map-append pointer (take k entries) (e ∷ drop (suc k) entries)
@@ -167,4 +167,4 @@ module _ {X : Type 0} (form : Form X) (laws : IsForm form) (site : Site) (place 
       (areas ∙ ap (overlaid (key_size form * k) key) found
       ∙ overlaid_first (key_size form * k) key keys pointers (omega (arith, rooms.0, sized, length-found))
       ∙ ap (λ (xs : List ℕ). xs ++ pointers) over
-      ∙ ap (λ (xs : List ℕ). zero_padded (key_room form) (keys_of next) ++ zero_padded room xs) (sym same)))
+      ∙ ap (λ (xs : List ℕ). zero_filled (key_room form) (keys_of next) ++ zero_filled room xs) (sym same)))

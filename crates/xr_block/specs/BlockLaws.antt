@@ -12,7 +12,7 @@ use Rattle.xr_base.specs.ImageLaws.{length-overlaid, part_below}
 use Rattle.xr_base.specs.declared.geometry.TheConstants.{BLOCK_BYTES}
 use Rattle.xr_kinds.specs.BigEndianLaws.{drop-bytes, reads_alone}
 use Rattle.xr_kinds.specs.Form.{Form, IsForm, header_size, key_size, pointer_size}
-use Rattle.xr_block.specs.TreeBlock.{Entry, Place, Site, count_in, entries_from, entries_in, zero_padded, header, leaf_bytes, sibling, node_bytes, node_items, records_from, records_in, crc_place, with_crc, tree_block}
+use Rattle.xr_block.specs.TreeBlock.{Entry, Place, Site, count_in, entries_from, entries_in, zero_filled, header, leaf_bytes, sibling, node_bytes, node_items, records_from, records_in, crc_place, with_crc, tree_block}
 
 -- the fields of a header fill it, with the checksum and what is after it
 pub fields_fill : (long : Bool) → (let pointer : ℕ = if long then 8 else 4 in let size : ℕ = if long then 72 else 56 in let sum : ℕ = if long then 64 else 52 in
@@ -40,8 +40,8 @@ length-header form site place count whole =
       length-replicate {A = ℕ} (header_size form - crc_place form) 0,
     ))
 
-pub length-zero_padded : (n : ℕ) (bytes : List ℕ) → length bytes ≤ n → length (zero_padded n bytes) ≡ n
-length-zero_padded n bytes fits = length-append bytes (replicate (n - length bytes) 0) ∙ omega (arith, length-replicate {A = ℕ} (n - length bytes) 0)
+pub length-zero_filled : (n : ℕ) (bytes : List ℕ) → length bytes ≤ n → length (zero_filled n bytes) ≡ n
+length-zero_filled n bytes fits = length-append bytes (replicate (n - length bytes) 0) ∙ omega (arith, length-replicate {A = ℕ} (n - length bytes) 0)
 
 -- what stands after bytes that were laid over
 pub drop_overlaid : (at k : ℕ) (bytes image : List ℕ) → at + length bytes ≤ k → at + length bytes ≤ length image
@@ -68,19 +68,19 @@ module _ {X : Type 0} (form : Form X) (site : Site) (place : Place) (count : ℕ
   unfolding tree_block fields
   length-tree_block =
       let fill = fields_fill form.long in
-      let long = length-zero_padded BLOCK_BYTES fields length-fields in
-      let sum : List ℕ = little_bytes 4 (checksum_of (without_four (crc_place form) (zero_padded BLOCK_BYTES fields))) in
-      length-overlaid (crc_place form) sum (zero_padded BLOCK_BYTES fields) (omega (arith, fill, long)) ∙ long
+      let long = length-zero_filled BLOCK_BYTES fields length-fields in
+      let sum : List ℕ = little_bytes 4 (checksum_of (without_four (crc_place form) (zero_filled BLOCK_BYTES fields))) in
+      length-overlaid (crc_place form) sum (zero_filled BLOCK_BYTES fields) (omega (arith, fill, long)) ∙ long
 
   -- the items stand after the header
   pub items_in_block : drop (header_size form) (tree_block form site place count items) ≡ items ++ replicate (BLOCK_BYTES - length (header form site place count ++ items)) 0
   unfolding tree_block fields
   items_in_block =
       let fill = fields_fill form.long in
-      let long = length-zero_padded BLOCK_BYTES fields length-fields in
-      let sum : List ℕ = little_bytes 4 (checksum_of (without_four (crc_place form) (zero_padded BLOCK_BYTES fields))) in
+      let long = length-zero_filled BLOCK_BYTES fields length-fields in
+      let sum : List ℕ = little_bytes 4 (checksum_of (without_four (crc_place form) (zero_filled BLOCK_BYTES fields))) in
       let zeros : List ℕ = replicate (BLOCK_BYTES - length fields) 0 in
-      drop_overlaid (crc_place form) (header_size form) sum (zero_padded BLOCK_BYTES fields) (omega (arith, fill)) (omega (arith, fill, long))
+      drop_overlaid (crc_place form) (header_size form) sum (zero_filled BLOCK_BYTES fields) (omega (arith, fill)) (omega (arith, fill, long))
       ∙ ap (drop (header_size form)) (append_assoc (header form site place count) items zeros)
       ∙ drop_at (header form site place count) (items ++ zeros) (header_size form) (length-header form site place count whole)
 
@@ -88,10 +88,10 @@ module _ {X : Type 0} (form : Form X) (site : Site) (place : Place) (count : ℕ
   unfolding tree_block fields header
   count_in_block small =
       let fill = fields_fill form.long in
-      let long = length-zero_padded BLOCK_BYTES fields length-fields in
-      let sum : List ℕ = little_bytes 4 (checksum_of (without_four (crc_place form) (zero_padded BLOCK_BYTES fields))) in
+      let long = length-zero_filled BLOCK_BYTES fields length-fields in
+      let sum : List ℕ = little_bytes 4 (checksum_of (without_four (crc_place form) (zero_filled BLOCK_BYTES fields))) in
       let field : part 6 2 (tree_block form site place count items) ≡ big_bytes 2 count =
-      part_below (crc_place form) 2 6 sum (zero_padded BLOCK_BYTES fields) (omega (arith, fill)) (omega (arith, fill, long)) in
+      part_below (crc_place form) 2 6 sum (zero_filled BLOCK_BYTES fields) (omega (arith, fill)) (omega (arith, fill, long)) in
       sym (big_from-take 0 2 2 (drop 6 (tree_block form site place count items)) (omega arith))
       ∙ ap (big_number 2) field ∙ reads_alone 2 count small
 
@@ -101,12 +101,12 @@ summed_same at xs ys front after = rw (front, after) refl
 
 -- bytes with the right sum are a tree's block where they are its fields, items and zeros beside the sum
 pub block_is : {X : Type 0} (form : Form X) (site : Site) (place : Place) (count : ℕ) (items bytes : List ℕ) → bytes ≡ with_crc (crc_place form) bytes
-    → (let laid = zero_padded BLOCK_BYTES (header form site place count ++ items) in
+    → (let laid = zero_filled BLOCK_BYTES (header form site place count ++ items) in
     (take (crc_place form) bytes ≡ take (crc_place form) laid) × (drop (crc_place form + 4) bytes ≡ drop (crc_place form + 4) laid))
     → bytes ≡ tree_block form site place count items
 unfolding tree_block
 block_is form site place count items bytes sum same =
-    sum ∙ summed_same (crc_place form) bytes (zero_padded BLOCK_BYTES (header form site place count ++ items)) same.0 same.1
+    sum ∙ summed_same (crc_place form) bytes (zero_filled BLOCK_BYTES (header form site place count ++ items)) same.0 same.1
 
 -- records are read back one after the other
 pub records_back : {X : Type 0} (form : Form X) (laws : IsForm form) (records : List X) (rest : List ℕ) → All (λ (r : X). form.is_valid r ≡ true) records
@@ -182,19 +182,19 @@ entries_of_node form laws site place entries whole few all =
     let size : length entries * key_size form ≤ key_room = mul-le-mul_right (key_size form) few in
     let width : length entries * pointer_size form ≤ form.node_max * pointer_size form = mul-le-mul_right (pointer_size form) few in
     let long_keys = length-keys form entries all in
-    let long_room : length (zero_padded key_room keys) ≡ key_room = length-zero_padded key_room keys (omega arith) in
+    let long_room : length (zero_filled key_room keys) ≡ key_room = length-zero_filled key_room keys (omega arith) in
     let long_pointers : length pointers ≡ length entries * pointer_size form =
     length-items (λ (e : Entry). big_bytes (pointer_size form) e.child) (pointer_size form) entries
     (λ e. length-bytes_high_first (pointer_size form) e.child) in
     let items : List ℕ = node_items form entries in
     let room : header_size form + length items ≤ BLOCK_BYTES =
-    omega (arith, laws.node_fits, length-append (zero_padded key_room keys) pointers, long_room, long_pointers, width) in
+    omega (arith, laws.node_fits, length-append (zero_filled key_room keys) pointers, long_room, long_pointers, width) in
     let count = count_in_block form site place (length entries) items whole room (omega (arith, laws.node_few)) in
     let found = items_in_block form site place (length entries) items whole room in
     let zeros : List ℕ = replicate (BLOCK_BYTES - length (header form site place (length entries) ++ items)) 0 in
     let room_zeros : List ℕ = replicate (key_room - length keys) 0 in
     let after : drop key_room (items ++ zeros) ≡ pointers ++ zeros =
-    ap (drop key_room) (append_assoc (zero_padded key_room keys) pointers zeros) ∙ drop_at (zero_padded key_room keys) (pointers ++ zeros) key_room long_room in
+    ap (drop key_room) (append_assoc (zero_filled key_room keys) pointers zeros) ∙ drop_at (zero_filled key_room keys) (pointers ++ zeros) key_room long_room in
     let in_front : items ++ zeros ≡ keys ++ (room_zeros ++ (pointers ++ zeros)) =
-    append_assoc (zero_padded key_room keys) pointers zeros ∙ append_assoc keys room_zeros (pointers ++ zeros) in
+    append_assoc (zero_filled key_room keys) pointers zeros ∙ append_assoc keys room_zeros (pointers ++ zeros) in
     rw (count, found, after, in_front) (entries_back form entries (room_zeros ++ (pointers ++ zeros)) zeros all)

@@ -11,11 +11,11 @@ use Rattle.xr_base.specs.Image.{overlaid, part}
 use Rattle.xr_base.specs.ImageLaws.{part-overlaid}
 use Rattle.xr_base.specs.declared.geometry.TheConstants.{BLOCK_BYTES}
 use Rattle.xr_kinds.specs.BigEndianLaws.{bytes_again, dropped_bytes, reads_alone, taken_bytes}
-use Rattle.xr_block.specs.BlockLaws.{block_is, drop_overlaid, fields_fill, length-zero_padded, length-header, length-sibling, summed_same}
+use Rattle.xr_block.specs.BlockLaws.{block_is, drop_overlaid, fields_fill, length-zero_filled, length-header, length-sibling, summed_same}
 use Rattle.xr_block.specs.Checks.{HasHeader, left_in, sibling_in, place_in, right_in}
 use Rattle.xr_kinds.specs.Form.{Form, header_size, pointer_size}
 use Rattle.xr_base.specs.Fields.{AreBytes}
-use Rattle.xr_block.specs.TreeBlock.{Place, Site, count_in, zero_padded, header, sibling, crc_place, with_crc, tree_block}
+use Rattle.xr_block.specs.TreeBlock.{Place, Site, count_in, zero_filled, header, sibling, crc_place, with_crc, tree_block}
 
 -- what stands at a place, laid over it again
 laid_again : (at n : ℕ) (bytes : List ℕ) → at + n ≤ length bytes → overlaid at (part at n bytes) bytes ≡ bytes
@@ -116,7 +116,7 @@ unfolding header
 header_is form site place count = refl
 
 abbrev pub laid : {X : Type 0} → Form X → Site → Place → ℕ → List ℕ → List ℕ
-laid form site place count items = zero_padded BLOCK_BYTES (header form site place count ++ items)
+laid form site place count items = zero_filled BLOCK_BYTES (header form site place count ++ items)
 
 -- what stands after a header's checksum
 abbrev pub rest_of : {X : Type 0} → Form X → List ℕ → List ℕ
@@ -241,7 +241,7 @@ block_read form site place count items bytes identified room is =
     let sp : ℕ = crc_place form in
     let all : List ℕ = laid form site place count items in
     let long : length all ≡ BLOCK_BYTES =
-    length-zero_padded BLOCK_BYTES (header form site place count ++ items)
+    length-zero_filled BLOCK_BYTES (header form site place count ++ items)
     (omega (arith, room, length-append (header form site place count) items, length-header form site place count identified)) in
     let same = block_laid form site place count items bytes (omega (arith, long)) is in
     let before = same.before in

@@ -7,12 +7,12 @@ use Rattle.byteorder.specs.Endian.{big_bytes}
 use Rattle.byteorder.specs.Numbers.{big_from-lt, length-bytes_high_first}
 use Rattle.xr_base.specs.Image.{part}
 use Rattle.xr_base.specs.declared.geometry.TheConstants.{BLOCK_BYTES}
-use Rattle.xr_block.specs.BlockLaws.{AreEntries, entries_of_node, length-zero_padded, records_of_leaf}
+use Rattle.xr_block.specs.BlockLaws.{AreEntries, entries_of_node, length-zero_filled, records_of_leaf}
 use Rattle.xr_kinds.specs.BigEndianLaws.{dropped_bytes}
 use Rattle.xr_kinds.specs.Form.{Form, IsForm, header_size, key_size, pointer_size}
 use Rattle.xr_base.specs.Fields.{AreBytes}
 use Rattle.xr_block.specs.Rows.{IsWhole}
-use Rattle.xr_block.specs.TreeBlock.{Entry, Place, Site, count_in, entries_in, zero_padded, leaf_bytes, node_bytes, node_items, records_in}
+use Rattle.xr_block.specs.TreeBlock.{Entry, Place, Site, count_in, entries_in, zero_filled, leaf_bytes, node_bytes, node_items, records_in}
 use Rattle.xr_block.specs.CheckLaws.{block_read, rest_of}
 use Rattle.xr_block.specs.ItemCheckLaws.{held_record, leaf_holds, leaf_room, node_room}
 use Rattle.xr_block.specs.KeyLaws.{length-key}
@@ -22,7 +22,7 @@ use Rattle.xr_block.specs.ItemByteLaws.{AreSized, length-sized}
 use Rattle.xr_block.specs.Edits.{IsLeafOf, IsNodeOf}
 
 -- after a header stand the items and zeros
-pub rest_filled : {X : Type 0} (form : Form X) (items : List ℕ) → rest_of form items ≡ zero_padded (BLOCK_BYTES - header_size form) items
+pub rest_filled : {X : Type 0} (form : Form X) (items : List ℕ) → rest_of form items ≡ zero_filled (BLOCK_BYTES - header_size form) items
 rest_filled form items =
     ap (λ (n : ℕ). items ++ replicate n 0) (let e : BLOCK_BYTES - (header_size form + length items) ≡ BLOCK_BYTES - header_size form - length items = omega arith in e)
 
@@ -53,12 +53,12 @@ module _ {X : Type 0} (form : Form X) (laws : IsForm form) (entries : List Entry
   items_fit = (node_room form laws entries (key_size form * length entries) length-keys keys_fit few).1
 
   pub node_filled : rest_of form (node_items form entries)
-      ≡ zero_padded (key_room form) (keys_of entries) ++ zero_padded (BLOCK_BYTES - header_size form - key_room form) (pointers_of form entries)
+      ≡ zero_filled (key_room form) (keys_of entries) ++ zero_filled (BLOCK_BYTES - header_size form - key_room form) (pointers_of form entries)
   node_filled =
       let room : ℕ = BLOCK_BYTES - header_size form in
-      let keys : List ℕ = zero_padded (key_room form) (keys_of entries) in
+      let keys : List ℕ = zero_filled (key_room form) (keys_of entries) in
       let pointers : List ℕ = pointers_of form entries in
-      let long : length keys ≡ key_room form = length-zero_padded (key_room form) (keys_of entries) (omega (arith, length-keys, keys_fit)) in
+      let long : length keys ≡ key_room form = length-zero_filled (key_room form) (keys_of entries) (omega (arith, length-keys, keys_fit)) in
       rest_filled form (node_items form entries) ∙ append_assoc keys pointers (replicate (room - length (keys ++ pointers)) 0)
       ∙ ap (λ (n : ℕ). keys ++ (pointers ++ replicate n 0))
       (let e : room - length (keys ++ pointers) ≡ room - key_room form - length pointers = omega (arith, length-append keys pointers, long) in e)
@@ -106,7 +106,7 @@ module _ {X : Type 0} (form : Form X) (laws : IsForm form) (site : Site) (place 
   }
 
   pub leaf_rest : (records : List X) → IsLeafOf form site place records bytes
-      → drop (header_size form) bytes ≡ zero_padded (BLOCK_BYTES - header_size form) (flat_map form.bytes_of records)
+      → drop (header_size form) bytes ≡ zero_filled (BLOCK_BYTES - header_size form) (flat_map form.bytes_of records)
   leaf_rest records is =
       (block_read form site place (length records) (flat_map form.bytes_of records) bytes is.identified (leaf_room form laws records is.few) is.whole).rest
       ∙ rest_filled form (flat_map form.bytes_of records)
@@ -138,7 +138,7 @@ module _ {X : Type 0} (form : Form X) (laws : IsForm form) (site : Site) (place 
 
   pub node_rest : (entries : List Entry) → IsNodeOf form site place entries bytes
       → drop (header_size form) bytes
-      ≡ zero_padded (key_room form) (keys_of entries) ++ zero_padded (BLOCK_BYTES - header_size form - key_room form) (pointers_of form entries)
+      ≡ zero_filled (key_room form) (keys_of entries) ++ zero_filled (BLOCK_BYTES - header_size form - key_room form) (pointers_of form entries)
   node_rest entries is =
       (block_read form site place (length entries) (node_items form entries) bytes is.identified (items_fit form laws entries is.fit is.few) is.whole).rest
       ∙ node_filled form laws entries is.fit is.few

@@ -6,15 +6,15 @@ use Rattle.std.proofs.lemmas.List.{append_assoc, drop_at, drop-drop, drop-replic
 use Rattle.std.proofs.lemmas.List.Elements.{All-drop, All-tail, All-take}
 use Rattle.std.specs.List.{All, flat_map, insert, remove}
 use Rattle.xr_base.specs.Image.{overlaid, part}
-use Rattle.xr_block.specs.TreeBlock.{zero_padded}
+use Rattle.xr_block.specs.TreeBlock.{zero_filled}
 use Rattle.xr_block.specs.ItemBytes.{with_item, without_item}
 
 -- bytes with zeros after them, split in two
-filled_is : (n : ℕ) (xs ys : List ℕ) → zero_padded n (xs ++ ys) ≡ xs ++ (ys ++ replicate (n - (length xs + length ys)) 0)
+filled_is : (n : ℕ) (xs ys : List ℕ) → zero_filled n (xs ++ ys) ≡ xs ++ (ys ++ replicate (n - (length xs + length ys)) 0)
 filled_is n xs ys = ap (λ (m : ℕ). xs ++ ys ++ replicate (n - m) 0) (length-append xs ys) ∙ append_assoc xs ys _
 
 pub put_bytes : (n at end : ℕ) (xs ys item : List ℕ) → length xs ≡ at → length xs + length ys ≡ end → end + length item ≤ n
-    → with_item at end item (zero_padded n (xs ++ ys)) ≡ zero_padded n (xs ++ (item ++ ys))
+    → with_item at end item (zero_filled n (xs ++ ys)) ≡ zero_filled n (xs ++ (item ++ ys))
 put_bytes n at end xs ys item long all room =
     let zeros : List ℕ = replicate (n - (length xs + length ys)) 0 in
     let bytes : List ℕ = xs ++ (ys ++ zeros) in
@@ -30,7 +30,7 @@ put_bytes n at end xs ys item long all room =
     ∙ rw (take_at xs (ys ++ zeros) at long, middle, past) (sym (filled_is n xs (item ++ ys) ∙ ap (λ (rest : List ℕ). xs ++ rest) (append_assoc item ys _)))
 
 pub removed_bytes : (n at end size : ℕ) (xs item ys : List ℕ) → length xs ≡ at → length item ≡ size → length xs + (size + length ys) ≡ end → end ≤ n
-    → without_item at end size (zero_padded n (xs ++ (item ++ ys))) ≡ zero_padded n (xs ++ ys)
+    → without_item at end size (zero_filled n (xs ++ (item ++ ys))) ≡ zero_filled n (xs ++ ys)
 removed_bytes n at end size xs item ys long sized all room =
     let zeros : List ℕ = replicate (n - (length xs + length (item ++ ys))) 0 in
     let bytes : List ℕ = xs ++ (item ++ ys ++ zeros) in
@@ -49,7 +49,7 @@ removed_bytes n at end size xs item ys long sized all room =
     ∙ rw (take_at xs (item ++ ys ++ zeros) at long, middle, past, more) (sym (filled_is n xs ys))
 
 pub set_bytes : (n at : ℕ) (xs old item ys : List ℕ) → length xs ≡ at → length item ≡ length old
-    → overlaid at item (zero_padded n (xs ++ (old ++ ys))) ≡ zero_padded n (xs ++ (item ++ ys))
+    → overlaid at item (zero_filled n (xs ++ (old ++ ys))) ≡ zero_filled n (xs ++ (item ++ ys))
 set_bytes n at xs old item ys long same =
     let zeros : List ℕ = replicate (n - (length xs + length (old ++ ys))) 0 in
     let bytes : List ℕ = xs ++ (old ++ ys ++ zeros) in
@@ -122,17 +122,17 @@ module _ {I : Type 0} (bytes_of : I → List ℕ) (size : ℕ) where
       split_bytes items k ∙ ap (λ (xs : List I). flat_map bytes_of (take k items) ++ flat_map bytes_of xs) (drop-cons items k d within)
 
   pub put_items : (n k : ℕ) (items : List I) (i : I) → AreSized items → length (bytes_of i) ≡ size → k ≤ length items → size * (length items + 1) ≤ n
-      → with_item (size * k) (size * length items) (bytes_of i) (zero_padded n (flat_map bytes_of items)) ≡ zero_padded n (flat_map bytes_of (insert items k i))
+      → with_item (size * k) (size * length items) (bytes_of i) (zero_filled n (flat_map bytes_of items)) ≡ zero_filled n (flat_map bytes_of (insert items k i))
   put_items n k items i all one within room =
       let front : List ℕ = flat_map bytes_of (take k items) in
       let rest : List ℕ = flat_map bytes_of (drop k items) in
       let whole : length front + length rest ≡ size * length items = sym (length-append front rest) ∙ ap length (sym (split_bytes items k)) ∙ length-sized items all in
-      ap (λ (xs : List ℕ). with_item (size * k) (size * length items) (bytes_of i) (zero_padded n xs)) (split_bytes items k)
+      ap (λ (xs : List ℕ). with_item (size * k) (size * length items) (bytes_of i) (zero_filled n xs)) (split_bytes items k)
       ∙ put_bytes n (size * k) (size * length items) front rest (bytes_of i) (length-first items k all within) whole (omega (arith, one, room))
-      ∙ ap (zero_padded n) (sym (flat_map-append bytes_of (take k items) (i ∷ drop k items)))
+      ∙ ap (zero_filled n) (sym (flat_map-append bytes_of (take k items) (i ∷ drop k items)))
 
   pub removed_items : (n k : ℕ) (items : List I) → AreSized items → k < length items → size * length items ≤ n
-      → without_item (size * k) (size * length items) size (zero_padded n (flat_map bytes_of items)) ≡ zero_padded n (flat_map bytes_of (remove items k))
+      → without_item (size * k) (size * length items) size (zero_filled n (flat_map bytes_of items)) ≡ zero_filled n (flat_map bytes_of (remove items k))
   removed_items n k [] all within room = absurd (omega arith)
   removed_items n k (first ∷ others) all within room =
       let items : List I = first ∷ others in
@@ -142,18 +142,18 @@ module _ {I : Type 0} (bytes_of : I → List ℕ) (size : ℕ) where
       let split = split_at items k first within in
       let whole : length front + (size + length rest) ≡ size * length items =
       omega (arith, length-append front (item ++ rest), length-append item rest, all k first within, ap length split, length-sized items all) in
-      ap (λ (xs : List ℕ). without_item (size * k) (size * length items) size (zero_padded n xs)) split
+      ap (λ (xs : List ℕ). without_item (size * k) (size * length items) size (zero_filled n xs)) split
       ∙ removed_bytes n (size * k) (size * length items) size front item rest (length-first items k all (omega arith)) (all k first within) whole room
-      ∙ ap (zero_padded n) (sym (flat_map-append bytes_of (take k items) (drop (suc k) items)))
+      ∙ ap (zero_filled n) (sym (flat_map-append bytes_of (take k items) (drop (suc k) items)))
 
   pub set_items : (n k : ℕ) (items : List I) (i : I) → AreSized items → length (bytes_of i) ≡ size → k < length items
-      → overlaid (size * k) (bytes_of i) (zero_padded n (flat_map bytes_of items)) ≡ zero_padded n (flat_map bytes_of (slice_set items k i))
+      → overlaid (size * k) (bytes_of i) (zero_filled n (flat_map bytes_of items)) ≡ zero_filled n (flat_map bytes_of (slice_set items k i))
   set_items n k [] i all one within = absurd (omega arith)
   set_items n k (first ∷ others) i all one within =
       let items : List I = first ∷ others in
       let front : List ℕ = flat_map bytes_of (take k items) in
       let old : List ℕ = bytes_of (get_or items k first) in
       let rest : List ℕ = flat_map bytes_of (drop (suc k) items) in
-      ap (λ (xs : List ℕ). overlaid (size * k) (bytes_of i) (zero_padded n xs)) (split_at items k first within)
+      ap (λ (xs : List ℕ). overlaid (size * k) (bytes_of i) (zero_filled n xs)) (split_at items k first within)
       ∙ set_bytes n (size * k) front old (bytes_of i) rest (length-first items k all (omega arith)) (one ∙ sym (all k first within))
-      ∙ ap (zero_padded n) (sym (flat_map-append bytes_of (take k items) (i ∷ drop (suc k) items)) ∙ ap (flat_map bytes_of) (sym (set_split items k i within)))
+      ∙ ap (zero_filled n) (sym (flat_map-append bytes_of (take k items) (i ∷ drop (suc k) items)) ∙ ap (flat_map bytes_of) (sym (set_split items k i within)))

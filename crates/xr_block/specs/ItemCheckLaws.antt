@@ -11,13 +11,13 @@ use Rattle.byteorder.specs.Numbers.{big_from-take, length-bytes_high_first}
 use Rattle.xr_base.specs.Image.{part}
 use Rattle.xr_base.specs.declared.geometry.TheConstants.{BLOCK_BYTES}
 use Rattle.xr_kinds.specs.BigEndianLaws.{bytes_again, dropped_bytes, taken_bytes}
-use Rattle.xr_block.specs.BlockLaws.{length-zero_padded, length-items}
+use Rattle.xr_block.specs.BlockLaws.{length-zero_filled, length-items}
 use Rattle.xr_block.specs.Checks.{AreZeros, HasRecords, HoldsRecords, HasHeader, IsCheckedLeaf, IsCheckedNode, place_in}
 use Rattle.xr_kinds.specs.Form.{Form, IsForm, header_size, key_size, pointer_size}
 use Rattle.xr_base.specs.Fields.{AreBytes}
 use Rattle.xr_block.specs.NodeEntryLaws.{length-entries}
 use Rattle.xr_block.specs.Rows.{IsWhole}
-use Rattle.xr_block.specs.TreeBlock.{Entry, Place, Site, count_in, entries_from, entries_in, zero_padded, leaf_bytes, node_bytes, node_items, records_from, records_in, tree_block}
+use Rattle.xr_block.specs.TreeBlock.{Entry, Place, Site, count_in, entries_from, entries_in, zero_filled, leaf_bytes, node_bytes, node_items, records_from, records_in, tree_block}
 use Rattle.xr_block.specs.CheckLaws.{IsRead, block_read, framed_block, rest_of}
 
 -- n records stand in some bytes
@@ -231,13 +231,13 @@ node_whole form laws site least n level bytes identified long all tested =
     length-take-le gap (drop (key * count) xs) (omega (arith, few, fits, length-drop (key * count) xs)) ∙ omega (arith, length_keys) in
     let between : part (key * count) gap xs ≡ replicate (room - length keys) 0 =
     subst AreZeros same tested.room.between ∙ ap (λ (k : ℕ). replicate k 0) length_gap in
-    let filled_keys : take room xs ≡ zero_padded room keys =
+    let filled_keys : take room xs ≡ zero_filled room keys =
     ap (λ (k : ℕ). take k xs) (let e : room ≡ key * count + gap = omega (arith, few) in e)
     ∙ take-add (key * count) gap xs ∙ ap (λ (ys : List ℕ). ys ++ part (key * count) gap xs) (sym keys_are)
     ∙ ap (λ (ys : List ℕ). keys ++ ys) between in
     let items_are : take (room + width * count) xs ≡ node_items form entries =
     take-add room (width * count) xs ∙ ap (λ (ys : List ℕ). ys ++ take (width * count) (drop room xs)) filled_keys
-    ∙ ap (λ (ys : List ℕ). zero_padded room keys ++ ys) (sym pointers_are) in
+    ∙ ap (λ (ys : List ℕ). zero_filled room keys ++ ys) (sym pointers_are) in
     let length_items : length (node_items form entries) ≡ room + width * count =
     sym (ap length items_are) ∙ length-take-le (room + width * count) xs (omega (arith, narrow, fits)) in
     let rest = rest_from form (node_items form entries) bytes (room + width * count) long length_items items_are
@@ -260,10 +260,10 @@ node_room form laws entries keys long fits few =
     let room : ℕ = form.node_max * key_size form in
     let listed : List ℕ = flat_map (λ (e : Entry). e.key) entries in
     let size : length (node_items form entries) ≡ room + length entries * width =
-    length-append (zero_padded room listed) (flat_map (λ (e : Entry). big_bytes width e.child) entries)
+    length-append (zero_filled room listed) (flat_map (λ (e : Entry). big_bytes width e.child) entries)
     ∙ omega (
       arith,
-      length-zero_padded room listed (omega (arith, long, fits)),
+      length-zero_filled room listed (omega (arith, long, fits)),
       length-items (λ (e : Entry). big_bytes width e.child) width entries (λ e. length-bytes_high_first width e.child),
     ) in
     (size, omega (arith, laws.node_fits, narrow, size))

@@ -10,7 +10,7 @@ use Rattle.xr_base.specs.declared.geometry.TheConstants.{BLOCK_BYTES}
 use Rattle.xr_kinds.specs.BigEndianLaws.{reads_alone}
 use Rattle.xr_kinds.specs.Form.{Form, header_size, key_size, pointer_size}
 use Rattle.xr_block.specs.NodeEntries.{child_in, key_in}
-use Rattle.xr_block.specs.TreeBlock.{Entry, Place, Site, count_in, entries_from, entries_in, zero_padded, header, crc_place, tree_block}
+use Rattle.xr_block.specs.TreeBlock.{Entry, Place, Site, count_in, entries_from, entries_in, zero_filled, header, crc_place, tree_block}
 
 after_count : (long : Bool) → (let sum : ℕ = if long then 64 else 52 in (8 ≤ sum) × (sum + 4 ≤ BLOCK_BYTES))
 after_count true = (omega arith, omega arith)
@@ -55,11 +55,11 @@ pub count_of_block : {X : Type 0} (form : Form X) (site : Site) (place : Place) 
 unfolding tree_block header
 count_of_block form site place count items small =
     let fields : List ℕ = header form site place count ++ items in
-    let sum : List ℕ = little_bytes 4 (checksum_of (without_four (crc_place form) (zero_padded BLOCK_BYTES fields))) in
+    let sum : List ℕ = little_bytes 4 (checksum_of (without_four (crc_place form) (zero_filled BLOCK_BYTES fields))) in
     let sum_after : (8 ≤ crc_place form) × (crc_place form + 4 ≤ BLOCK_BYTES) = after_count form.long in
-    let long : BLOCK_BYTES ≤ length (zero_padded BLOCK_BYTES fields) =
+    let long : BLOCK_BYTES ≤ length (zero_filled BLOCK_BYTES fields) =
     omega (arith, length-append fields (replicate {A = ℕ} (BLOCK_BYTES - length fields) 0), length-replicate {A = ℕ} (BLOCK_BYTES - length fields) 0) in
     let field : part 6 2 (tree_block form site place count items) ≡ big_bytes 2 count =
-    part_below (crc_place form) 2 6 sum (zero_padded BLOCK_BYTES fields) (omega (arith, sum_after.0)) (omega (arith, sum_after.1, long)) in
+    part_below (crc_place form) 2 6 sum (zero_filled BLOCK_BYTES fields) (omega (arith, sum_after.0)) (omega (arith, sum_after.1, long)) in
     sym (big_from-take 0 2 2 (drop 6 (tree_block form site place count items)) (omega arith))
     ∙ ap (big_number 2) field ∙ reads_alone 2 count small

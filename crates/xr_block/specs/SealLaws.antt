@@ -12,7 +12,7 @@ use Rattle.xr_kinds.specs.BigEndianLaws.{dropped_bytes, taken_bytes}
 use Rattle.xr_block.specs.BlockLaws.{drop_overlaid, fields_fill, summed_same}
 use Rattle.xr_kinds.specs.Form.{Form, header_size, pointer_size}
 use Rattle.xr_base.specs.Fields.{AreBytes}
-use Rattle.xr_block.specs.TreeBlock.{Place, Site, count_in, zero_padded, header, crc_place, with_crc, tree_block}
+use Rattle.xr_block.specs.TreeBlock.{Place, Site, count_in, zero_filled, header, crc_place, with_crc, tree_block}
 use Rattle.xr_block.specs.Checks.{left_in, sibling_in, right_in}
 use Rattle.xr_block.specs.Edits.{sealed}
 
@@ -108,7 +108,7 @@ unfolding tree_block
 sealed_block form site place count items identified =
     let fill = fields_fill form.long in
     let fields : List ℕ = header form site place count ++ items in
-    let all : List ℕ = zero_padded BLOCK_BYTES fields in
+    let all : List ℕ = zero_filled BLOCK_BYTES fields in
     let long : BLOCK_BYTES ≤ length all =
     omega (arith, length-append fields (replicate (BLOCK_BYTES - length fields) 0), length-replicate {A = ℕ} (BLOCK_BYTES - length fields) 0) in
     summed_again (crc_place form) all (omega (arith, fill, long))

@@ -29,8 +29,8 @@ pub record Entry : Type 0 where
   pub child : ℕ
 
 -- bytes with zeros after them, n in all
-abbrev pub zero_padded : ℕ → List ℕ → List ℕ
-zero_padded n bytes = bytes ++ replicate (n - length bytes) 0
+abbrev pub zero_filled : ℕ → List ℕ → List ℕ
+zero_filled n bytes = bytes ++ replicate (n - length bytes) 0
 
 -- the bytes with their checksum among them
 abbrev pub with_crc : ℕ → List ℕ → List ℕ
@@ -70,7 +70,7 @@ header form site place count =
     ++ big_bytes (pointer_size form) site.owner ++ replicate (header_size form - crc_place form) 0
 
 unfoldable pub tree_block : {X : Type 0} → Form X → Site → Place → ℕ → List ℕ → List ℕ
-tree_block form site place count items = with_crc (crc_place form) (zero_padded BLOCK_BYTES (header form site place count ++ items))
+tree_block form site place count items = with_crc (crc_place form) (zero_filled BLOCK_BYTES (header form site place count ++ items))
 
 abbrev pub leaf_bytes : {X : Type 0} → Form X → Site → Place → List X → List ℕ
 leaf_bytes form site place records = tree_block form site place (length records) (flat_map form.bytes_of records)
@@ -78,7 +78,7 @@ leaf_bytes form site place records = tree_block form site place (length records)
 -- the keys stand first, in room for as many as a node can have
 abbrev pub node_items : {X : Type 0} → Form X → List Entry → List ℕ
 node_items form entries =
-    zero_padded (form.node_max * key_size form) (flat_map (λ (e : Entry). e.key) entries)
+    zero_filled (form.node_max * key_size form) (flat_map (λ (e : Entry). e.key) entries)
     ++ flat_map (λ (e : Entry). big_bytes (pointer_size form) e.child) entries
 
 abbrev pub node_bytes : {X : Type 0} → Form X → Site → Place → List Entry → List ℕ

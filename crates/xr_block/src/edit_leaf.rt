@@ -3,7 +3,7 @@ ghost use Rattle.std.specs.Prelude.{◌≡◌, ℕ, ◌+◌, ◌-◌, ◌*◌, �
 ghost use Rattle.std.specs.List.{All, flat_map, insert, remove};
 ghost use Rattle.xr_base.specs.Image.{overlaid, part};
 ghost use Rattle.xr_kinds.specs.Form.{header_size};
-ghost use Rattle.xr_block.specs.TreeBlock.{Place, Site, count_in, zero_padded};
+ghost use Rattle.xr_block.specs.TreeBlock.{Place, Site, count_in, zero_filled};
 ghost use Rattle.xr_block.specs.Edits.{IsHeader, IsLeafOf, sealed};
 ghost use Rattle.xr_block.specs.ItemBytes.{with_item, without_item};
 

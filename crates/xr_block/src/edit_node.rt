@@ -5,7 +5,7 @@ ghost use Rattle.byteorder.specs.Endian.{big_bytes};
 ghost use Rattle.xr_base.specs.Image.{overlaid, part};
 ghost use Rattle.xr_block.specs.BlockLaws.{AreEntries};
 ghost use Rattle.xr_kinds.specs.Form.{header_size, key_size, pointer_size};
-ghost use Rattle.xr_block.specs.TreeBlock.{Entry, Place, Site, count_in, zero_padded};
+ghost use Rattle.xr_block.specs.TreeBlock.{Entry, Place, Site, count_in, zero_filled};
 ghost use Rattle.xr_block.specs.Edits.{IsHeader, IsNodeOf, sealed, with_key};
 ghost use Rattle.xr_block.specs.ItemBytes.{with_item, without_item};
 
@@ -163,7 +163,7 @@ fn gather_keys<R: Record>(keys: &mut [u8], first: &Block, second: &Block, from: 
     requires within { to ≤ count_in first.now + count_in second.now }
     requires few { (count_in first.now ≤ R.form.node_max) × (count_in second.now ≤ R.form.node_max) }
     requires room { key_size R.form * (to - from) ≤ length keys.old }
-    ensures { keys.new ≡ zero_padded (length keys.old) (part (key_size R.form * from) (key_size R.form * to - key_size R.form * from)
+    ensures { keys.new ≡ zero_filled (length keys.old) (part (key_size R.form * from) (key_size R.form * to - key_size R.form * from)
         (part (header_size R.form) (key_size R.form * count_in first.now) first.now
         ++ part (header_size R.form) (key_size R.form * count_in second.now) second.now)) }
 {
@@ -190,7 +190,7 @@ fn gather_pointers<R: Record>(
     requires few { (count_in first.now ≤ R.form.node_max) × (count_in second.now ≤ R.form.node_max) }
     requires room { pointer_size R.form * (to - from) ≤ length pointers.old }
     ensures { pointers.new
-        ≡ zero_padded (length pointers.old) (part (pointer_size R.form * from) (pointer_size R.form * to - pointer_size R.form * from)
+        ≡ zero_filled (length pointers.old) (part (pointer_size R.form * from) (pointer_size R.form * to - pointer_size R.form * from)
         (part (header_size R.form + R.form.node_max * key_size R.form) (pointer_size R.form * count_in first.now) first.now
         ++ part (header_size R.form + R.form.node_max * key_size R.form) (pointer_size R.form * count_in second.now) second.now)) }
 {

@@ -1,7 +1,7 @@
 //! Items of one size, one after the other in some bytes: one more, one less, and some of those of two rows.
 ghost use Rattle.std.specs.Prelude.{◌≡◌, ◌+◌, ◌-◌, ◌≤◌, ◌++◌, length};
 ghost use Rattle.xr_base.specs.Image.{part};
-ghost use Rattle.xr_block.specs.TreeBlock.{zero_padded};
+ghost use Rattle.xr_block.specs.TreeBlock.{zero_filled};
 ghost use Rattle.xr_block.specs.ItemBytes.{with_gap, with_item, without_item};
 
 /// Moves the items from a place to an end back, so that there is room for an item of a size.
@@ -36,7 +36,7 @@ pub(crate) fn remove_item(bytes: &mut [u8], at: usize, end: usize, size: usize)
 /// Writes some bytes, others after them, and zeros.
 pub(crate) fn put_both(out: &mut [u8], front: &[u8], after: &[u8])
     requires { length front.now + length after.now ≤ length out.old }
-    ensures { out.new ≡ zero_padded (length out.old) (front.now ++ after.now) }
+    ensures { out.new ≡ zero_filled (length out.old) (front.now ++ after.now) }
 {
     let (first, rest) = out.split_at_mut(front.len());
     let (second, zeros) = rest.split_at_mut(after.len());
@@ -50,7 +50,7 @@ pub(crate) fn gather_items(out: &mut [u8], front: &[u8], after: &[u8], from: usi
     requires order { from ≤ to }
     requires within { to ≤ length front.now + length after.now }
     requires room { to - from ≤ length out.old }
-    ensures { out.new ≡ zero_padded (length out.old) (part from (to - from) (front.now ++ after.now)) }
+    ensures { out.new ≡ zero_filled (length out.old) (part from (to - from) (front.now ++ after.now)) }
 {
     let end = front.len();
     put_both(

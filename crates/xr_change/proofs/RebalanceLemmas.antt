@@ -158,12 +158,12 @@ module _ {X : Type 0} {form : Form X} (laws : IsForm form) {a : Blocks} {level n
     pub split_ready : item_count form a level (child_of form a n k) ≡ max_records form level → IsSplit t
     split_ready full =
         let placed = child.placed in
-        let zero_padded : item_count form (with_taken a m) level c ≡ max_records form level =
+        let zero_filled : item_count form (with_taken a m) level c ≡ max_records form level =
         items_counted form (with_taken a m) level c ∙ sym (items_counted form a level c) ∙ ap (item_count form a level) kth.is ∙ full in
         subst IsSplit (sym taken) (
           kth_level form laws a level n k c kth,
           assumption placed,
-          zero_padded,
+          zero_filled,
           range.1,
           not_spare c child.used.taken,
           λ q right. not_spare q (child.next_used q right).taken,

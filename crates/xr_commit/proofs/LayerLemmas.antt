@@ -16,7 +16,7 @@ use Rattle.xr_commit.specs.Entries.{HasEntries}
 use Rattle.xr_commit.specs.LiveStream.{IsLiveIn}
 use Rattle.xr_commit.specs.LogRecords.{IsNewest, LogRecord, home_of}
 use Rattle.xr_commit.specs.Operations.{KeepsUnmounts}
-use Rattle.xr_commit.specs.Refusals.{BreaksChain, RefusesBodies, RefusesLog, LeadsNowhere, RefusesRecords, fault_of}
+use Rattle.xr_commit.specs.Refusals.{BreaksChain, RefusesBodies, RefusesLog, LeadsNowhere, RefusesLiveRecords, fault_of}
 
 -- the newest record, with its body
 abbrev pub top : (uuid log : List ℕ) (head : Head) → IsNewest uuid log head → LogRecord
@@ -27,7 +27,7 @@ pub chain_refused : (uuid log : List ℕ) (head : Head) (fault : ScanFault) → 
 chain_refused uuid log head fault n broken = inr (top uuid log head n, n.newest, inl broken)
 
 pub records_refused : (uuid log : List ℕ) (head : Head) (heads : List Head) (fault : ScanFault) → (n : IsNewest uuid log head)
-    → (c : AreOfChain uuid log (top uuid log head n) heads) → RefusesRecords uuid head c.records fault → RefusesLog uuid log fault
+    → (c : AreOfChain uuid log (top uuid log head n) heads) → RefusesLiveRecords uuid head c.records fault → RefusesLog uuid log fault
 records_refused uuid log head heads fault n c refused = inr (top uuid log head n, n.newest, inr (c.records, c.chain, refused))
 
 pub no_reserve : (uuid log : List ℕ) (head : Head) (heads hs : List Head) (n : IsNewest uuid log head) → (c : AreOfChain uuid log (top uuid log head n) heads) → hs ≡ heads

@@ -4,7 +4,7 @@ use Rattle.xr_headers.specs.FreshLaws.{super_block-uuid}
 use Rattle.xr_record.specs.declared.entry.Entry.{Entry}
 use Rattle.xr_record.specs.Stream.{Piece, entry}
 use Rattle.xr_record.specs.OneWayLaws.{one_reading}
-use Rattle.xr_commit.specs.Chain.{IsChain}
+use Rattle.xr_commit.specs.Chain.{IsLiveTrail}
 use Rattle.xr_commit.specs.Entries.{HasEntries, joined_bodies}
 use Rattle.xr_commit.specs.LiveLaws.{IsOneLive}
 use Rattle.xr_commit.specs.LiveStream.{IsLiveIn}
@@ -25,7 +25,7 @@ one_live image one two a b =
     let x = subst (λ (u : List ℕ). IsLiveIn u log one.heads.items one.entries.items) uuid a.live_in in
     let y = b.live_in in
     let head : x.head ≡ y.head = one_head two.uuid log x.head y.head x.newest y.newest in
-    let records : x.records ≡ y.records = one_chain two.uuid log y.head x.records y.records (subst (λ (r : LogRecord). IsChain two.uuid log r x.records) head x.chain) y.chain in
+    let records : x.records ≡ y.records = one_chain two.uuid log y.head x.records y.records (subst (λ (r : LogRecord). IsLiveTrail two.uuid log r x.records) head x.chain) y.chain in
     record {
       uuid = uuid;
       heads = x.heads_are ∙ ap (λ (rs : List LogRecord). map (λ (r : LogRecord). r.head) rs) records ∙ sym y.heads_are;

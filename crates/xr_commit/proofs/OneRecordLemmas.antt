@@ -6,7 +6,7 @@ use Rattle.xr_record.specs.declared.head.Lsn.{Lsn}
 use Rattle.xr_record.specs.Lsn.{lsn_number}
 use Rattle.xr_record.specs.Record.{IsSealed}
 use Rattle.xr_record.specs.SealedRecordLaws.{sealed_head}
-use Rattle.xr_commit.specs.Chain.{IsChain, IsLost, IsTrail, IsPreviousRecord}
+use Rattle.xr_commit.specs.Chain.{IsLiveTrail, IsLost, IsTrail, IsPreviousRecord}
 use Rattle.xr_commit.specs.LogRecords.{IsHead, LogRecord, StandsAt, bytes_at}
 use Rattle.xr_commit.proofs.BodyLemmas.{one_body}
 use Rattle.xr_commit.proofs.ChainLemmas.{lsn_is}
@@ -89,10 +89,10 @@ no_longer uuid log tail newest r s n m a b stops = elim (cases_lt n m) [
   | inr done ↦ done
 ]
 
-chain_stops : (uuid log : List ℕ) (head : LogRecord) (records : List LogRecord) → (c : IsChain uuid log head records) → (x : LogRecord) → IsPreviousRecord uuid log head.head.tail c.oldest.head x → ⊥
+chain_stops : (uuid log : List ℕ) (head : LogRecord) (records : List LogRecord) → (c : IsLiveTrail uuid log head records) → (x : LogRecord) → IsPreviousRecord uuid log head.head.tail c.oldest.head x → ⊥
 chain_stops uuid log head records c x before = none_before_tail uuid log head.head.tail c.oldest x c.ends before
 
-pub one_chain : (uuid log : List ℕ) (head : LogRecord) (records others : List LogRecord) → IsChain uuid log head records → IsChain uuid log head others → records ≡ others
+pub one_chain : (uuid log : List ℕ) (head : LogRecord) (records others : List LogRecord) → IsLiveTrail uuid log head records → IsLiveTrail uuid log head others → records ≡ others
 one_chain uuid log head records others c d =
     let a = trail_reached uuid log head.head.tail head c.oldest c.later c.trail in
     let b = trail_reached uuid log head.head.tail head d.oldest d.later d.trail in
@@ -101,7 +101,7 @@ one_chain uuid log head records others c d =
     c.records_are ∙ trails_same uuid log head.head.tail head c.oldest d.oldest c.later d.later (omega (arith, up, down)) c.trail d.trail ∙ sym d.records_are
 
 -- where the log is lost, no chain goes on
-pub chain_or_lost : (uuid log : List ℕ) (head last : LogRecord) (records : List LogRecord) → IsChain uuid log head records → IsLost uuid log head last
+pub chain_or_lost : (uuid log : List ℕ) (head last : LogRecord) (records : List LogRecord) → IsLiveTrail uuid log head records → IsLost uuid log head last
     → ((x : LogRecord) → IsPreviousRecord uuid log head.head.tail last.head x → ⊥) → ⊥
 chain_or_lost uuid log head last records c lost stops =
     let tail = head.head.tail in

@@ -8,7 +8,7 @@ use Rattle.xr_record.specs.declared.head.Lsn.{Lsn}
 use Rattle.xr_record.specs.Record.{sectors_of}
 use Rattle.xr_record.specs.SealedRecordLaws.{sealed_len, sealed_length}
 use Rattle.xr_commit.specs.declared.layout.TheConstants.{LOG_BYTES, MOST_RECORD_BYTES}
-use Rattle.xr_commit.specs.Chain.{IsChain, IsTrail}
+use Rattle.xr_commit.specs.Chain.{IsLiveTrail, IsTrail}
 use Rattle.xr_commit.specs.ChainHeaders.{AreOfChain}
 use Rattle.xr_commit.proofs.RecordLemmas.{as_many, nth}
 use Rattle.xr_commit.specs.LogRecords.{AreIn, IsHead, IsNewest, LogRecord, StandsAt, bytes_at, record_end}
@@ -27,7 +27,7 @@ trail_stands uuid log tail newest oldest [] stands trail =
 trail_stands uuid log tail newest oldest (next ∷ later) stands trail =
     All-cons (StandsIn log) oldest (next ∷ later) (at_own log next.head.prev oldest trail.0.at.stands) (trail_stands uuid log tail newest next later stands trail.1)
 
-pub chain_stands : (uuid log : List ℕ) (newest : LogRecord) (records : List LogRecord) → IsHead uuid log newest → IsChain uuid log newest records → All (StandsIn log) records
+pub chain_stands : (uuid log : List ℕ) (newest : LogRecord) (records : List LogRecord) → IsHead uuid log newest → IsLiveTrail uuid log newest records → All (StandsIn log) records
 chain_stands uuid log newest records head chain =
     subst (All (StandsIn log)) (sym chain.records_are)
     (trail_stands uuid log newest.head.tail newest chain.oldest chain.later head.at.stands chain.trail)

@@ -21,7 +21,7 @@ IsTrail uuid log tail newest oldest [] = oldest ≡ newest
 IsTrail uuid log tail newest oldest (next ∷ later) = IsPreviousRecord uuid log tail next.head oldest × IsTrail uuid log tail newest next later
 
 -- the live stream's records in log order: the trail from the head back to the record whose LSN is the head's tail
-pub record IsChain (uuid log : List ℕ) (head : LogRecord) (records : List LogRecord) : Type 0 where
+pub record IsLiveTrail (uuid log : List ℕ) (head : LogRecord) (records : List LogRecord) : Type 0 where
   pub oldest : LogRecord
   pub later : List LogRecord
   pub records_are : records ≡ oldest ∷ later

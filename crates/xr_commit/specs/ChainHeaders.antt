@@ -3,7 +3,7 @@ use Rattle.std.specs.Prelude.{◌≡◌, ℕ, List}
 use Rattle.xr_record.specs.declared.head.Head.{Head}
 use Rattle.xr_record.specs.declared.head.Lsn.{Lsn}
 use Rattle.xr_commit.specs.declared.fault.ScanFault.{ScanFault}
-use Rattle.xr_commit.specs.Chain.{IsChain, IsPreviousRecord}
+use Rattle.xr_commit.specs.Chain.{IsLiveTrail, IsPreviousRecord}
 use Rattle.xr_commit.specs.LogRecords.{LogRecord, heads_of}
 use Rattle.xr_commit.specs.Refusals.{BreaksChain}
 
@@ -15,7 +15,7 @@ pub record IsHeaderBefore (uuid log : List ℕ) (tail : Lsn) (named_by head : He
 -- the headers of the chain's records
 pub record AreOfChain (uuid log : List ℕ) (newest : LogRecord) (heads : List Head) : Type 0 where
   pub records : List LogRecord
-  pub chain : IsChain uuid log newest records
+  pub chain : IsLiveTrail uuid log newest records
   pub heads_are : heads ≡ heads_of records
 
 abbrev pub HasChain : List ℕ → List ℕ → Head → List Head → Type 0

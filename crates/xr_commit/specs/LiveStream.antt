@@ -5,7 +5,7 @@ use Rattle.xr_record.specs.declared.head.Head.{Head}
 use Rattle.xr_record.specs.declared.entry.Entry.{Entry}
 use Rattle.xr_commit.specs.declared.live_stream.Live.{Live}
 use Rattle.xr_commit.specs.declared.layout.TheConstants.{LOG_BYTES}
-use Rattle.xr_commit.specs.Chain.{IsChain, HasReserve}
+use Rattle.xr_commit.specs.Chain.{IsLiveTrail, HasReserve}
 use Rattle.xr_commit.specs.LogRecords.{HasSuper, IsHead, LogRecord, heads_of, log_of}
 use Rattle.xr_commit.specs.Entries.{HasEntries}
 use Rattle.xr_commit.specs.GoodItems.{EntriesAreGood}
@@ -16,7 +16,7 @@ pub record IsLiveIn (uuid log : List ℕ) (heads : List Head) (entries : List En
   pub head : LogRecord
   pub newest : IsHead uuid log head
   pub records : List LogRecord
-  pub chain : IsChain uuid log head records
+  pub chain : IsLiveTrail uuid log head records
   pub reserve : HasReserve head.head (heads_of records)
   pub unmounts : All KeepsUnmounts records
   pub heads_are : heads ≡ heads_of records

@@ -11,7 +11,7 @@ use Rattle.xr_record.specs.Rules.{IsBad, IsStream}
 use Rattle.xr_record.specs.Stream.{Piece, Open}
 use Rattle.xr_commit.specs.declared.fault.ScanFault.{ScanFault}
 use Rattle.xr_commit.specs.declared.fault.ScanFault.TheVariants.{Magic, Version, Length, Checksum, Place, Operation, Header, DiskFault, NoMemory}
-use Rattle.xr_commit.specs.Chain.{IsChain, IsLost, NamesAstray, NamesNoRecord, NamesNoSector, HasReserve}
+use Rattle.xr_commit.specs.Chain.{IsLiveTrail, IsLost, NamesAstray, NamesNoRecord, NamesNoSector, HasReserve}
 use Rattle.xr_commit.specs.Entries.{joined_bodies}
 use Rattle.xr_commit.specs.BadItems.{BreaksItems}
 use Rattle.xr_commit.specs.LogRecords.{HasNoRecord, HasSuper, IsHead, LogRecord, heads_of, home_of, log_of, log_block_of}
@@ -74,13 +74,13 @@ abbrev pub RefusesBodies : List ℕ → List LogRecord → ScanFault → Type 0
 RefusesBodies uuid records fault =
     BreaksUnmounts records fault ⊎ (All KeepsUnmounts records × (BreaksOperations records fault ⊎ BreaksItems uuid records fault))
 
-abbrev pub RefusesRecords : List ℕ → Head → List LogRecord → ScanFault → Type 0
-RefusesRecords uuid head records fault =
+abbrev pub RefusesLiveRecords : List ℕ → Head → List LogRecord → ScanFault → Type 0
+RefusesLiveRecords uuid head records fault =
     ((HasReserve head (heads_of records) → ⊥) × (fault ≡ Length (home_of head))) ⊎ (HasReserve head (heads_of records) × RefusesBodies uuid records fault)
 
 abbrev pub RefusesHead : List ℕ → List ℕ → LogRecord → ScanFault → Type 0
 RefusesHead uuid log head fault =
-    BreaksChain uuid log head fault ⊎ ((records : List LogRecord) × IsChain uuid log head records × RefusesRecords uuid head.head records fault)
+    BreaksChain uuid log head fault ⊎ ((records : List LogRecord) × IsLiveTrail uuid log head records × RefusesLiveRecords uuid head.head records fault)
 
 abbrev pub RefusesLog : List ℕ → List ℕ → ScanFault → Type 0
 RefusesLog uuid log fault =

@@ -1,2 +1,3 @@
 pub mod MemoryCallLemmas
+pub mod PickLemmas
 pub mod StreamLemmas

@@ -9,6 +9,7 @@ pub mod FileDiskView
 pub mod Memory
 pub mod MemoryCalls
 pub mod MemoryDisk
+pub mod Picks
 pub mod Plan
 pub mod Runs
 pub mod Seen

@@ -276,7 +276,7 @@ fn keep_write(done: &mut Vec<Call>, kept: &mut Vec<u8>, number: u64, at: u32, by
 }
 
 /// Puts bytes into their place.
-fn overlay(image: &mut Vec<u8>, at: usize, bytes: &[u8])
+pub(crate) fn overlay(image: &mut Vec<u8>, at: usize, bytes: &[u8])
     requires { at + length bytes.now ≤ vec_len image.old }
     ensures { image.new.items ≡ overlaid at bytes.now image.old.items }
 {

@@ -4,7 +4,7 @@ use Rattle.std.proofs.lemmas.List.{append_assoc, drop-append-le, length-append, 
 use Rattle.xr_record.specs.declared.reader_fields.ReaderFields.{ReaderFields}
 use Rattle.xr_record.specs.declared.rules.Stage.{Stage}
 use Rattle.xr_record.specs.declared.rules.Stage.TheVariants as stage
-use Rattle.xr_record.specs.ReaderFields.{IsSettled, front_of, region_items, state_at, TakesBytes}
+use Rattle.xr_record.specs.ReaderFields.{AwaitsMore, front_of, region_items, state_at, TakesBytes}
 use Rattle.xr_record.specs.Operations.{fields}
 
 pub state_at-append : (s : Stage) (regions : List (List ℕ)) (body more : List ℕ) → front_of s ≤ length body → state_at s regions (body ++ more) ≡ state_at s regions body
@@ -13,7 +13,7 @@ state_at-append (stage.Begun tid) regions body more h = refl
 state_at-append (stage.Inside tid count) regions body more h = refl
 state_at-append (stage.Cut tid count front) regions body more h = rw (take-append-le front body more h) refl
 
-pub body_grown : (old new : ReaderFields) (taken : List ℕ) → IsSettled old → new.stage ≡ old.stage → new.regions ≡ old.regions → new.header ≡ old.header → new.place ≡ old.place
+pub body_grown : (old new : ReaderFields) (taken : List ℕ) → AwaitsMore old → new.stage ≡ old.stage → new.regions ≡ old.regions → new.header ≡ old.header → new.place ≡ old.place
     → new.body.items ≡ old.body.items ++ taken → 12 ≤ length old.header.items
     → length (old.body.items ++ taken) ≤ front_of old.stage + (fields old.header.items).len → TakesBytes old new taken
 body_grown old new taken k s r h p b long most =

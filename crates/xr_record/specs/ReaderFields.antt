@@ -59,7 +59,7 @@ pub record IsGrowing (reader : ReaderFields) : Type 0 where
   pub most : OPERATION_BYTES ≤ length reader.header.items → length reader.body.items ≤ front_of reader.stage + (fields reader.header.items).len
 
 -- and the header is right, and the body not whole
-pub record IsSettled (reader : ReaderFields) : Type 0 where
+pub record AwaitsMore (reader : ReaderFields) : Type 0 where
   pub growing : IsGrowing reader
   pub less : OPERATION_BYTES ≤ length reader.header.items → length reader.body.items < front_of reader.stage + (fields reader.header.items).len
   pub right : OPERATION_BYTES ≤ length reader.header.items → header_fault (reader_state reader).state (fields reader.header.items) ≡ None

@@ -2,7 +2,7 @@
 ghost use Rattle.std.specs.Prelude.{◌≡◌, ◌<◌, ◌≤◌, ◌++◌, [], ℕ, List, IfOk, IfErr, OnOk, Some, None, Err, length, option_to_list, take};
 ghost use Rattle.xr_record.specs.declared.entry.Entry.{Entry};
 ghost use Rattle.xr_record.specs.declared.fault.FeedFault.{FeedFault};
-ghost use Rattle.xr_record.specs.ReaderFields.{IsSettled, reader_state};
+ghost use Rattle.xr_record.specs.ReaderFields.{AwaitsMore, reader_state};
 ghost use Rattle.xr_record.specs.Reading.{IsFaultOf, Reads};
 ghost use Rattle.xr_record.specs.ReaderSteps.{FailsOn, TakesOn};
 
@@ -30,9 +30,9 @@ fn take_operation(
     alloc: Global,
     piece: &[u8],
 ) -> Result<Advance, FeedFault>
-    requires settled { IsSettled reader.old }
+    requires awaits { AwaitsMore reader.old }
     requires some { 0 < length piece.now }
-    ensures settled { IfOk result (λ _. IsSettled reader.new) }
+    ensures awaits { IfOk result (λ _. AwaitsMore reader.new) }
     ensures count { IfOk result (λ a. (0 < a.taken) × (a.taken ≤ length piece.now)) }
     ensures reads { IfOk result (λ a. TakesOn (reader_state reader.old) (reader_state reader.new) (take a.taken piece.now) (option_to_list a.entry)) }
     ensures fault { IfErr result (FailsOn (reader_state reader.old) piece.now) }
@@ -55,8 +55,8 @@ fn push_entry(entries: &mut Vec<Entry>, entry: Option<Entry>) -> Result<(), NoMe
 }
 
 fn read(reader: &mut ReaderFields, alloc: Global, piece: &[u8]) -> Result<Vec<Entry>, FeedFault>
-    requires { IsSettled reader.old }
-    ensures settled { IfOk result (λ _. IsSettled reader.new) }
+    requires { AwaitsMore reader.old }
+    ensures awaits { IfOk result (λ _. AwaitsMore reader.new) }
     ensures reads { IfOk result (λ entries. TakesOn (reader_state reader.old) (reader_state reader.new) piece.now entries.items) }
     ensures fault { IfErr result (FailsOn (reader_state reader.old) piece.now) }
 {
@@ -83,11 +83,11 @@ impl Model for Reader {
 
     ghost Value = { Reading };
 
-    ghost use Rattle.xr_record.specs.ReaderFields.{IsSettled, reader_state};
+    ghost use Rattle.xr_record.specs.ReaderFields.{AwaitsMore, reader_state};
 
     ghost view = { λ r. record { held = reader_state r.fields; ended = r.ended } };
 
-    ghost invariant = { λ r. r.ended ≡ None → IsSettled r.fields };
+    ghost invariant = { λ r. r.ended ≡ None → AwaitsMore r.fields };
 }
 
 impl Reader {

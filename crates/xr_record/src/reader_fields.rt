@@ -1,7 +1,7 @@
 //! What a reader keeps between pieces, and what an operation makes of it.
 ghost use Rattle.std.specs.Prelude.{◌≡◌, ◌<◌, ◌≤◌, ◌++◌, ◌∷◌, [], ℕ, IfOk, IfErr, OnOk, length, take};
 ghost use Rattle.xr_record.specs.declared.rules.Stage.TheVariants.{Between, Cut, Inside};
-ghost use Rattle.xr_record.specs.ReaderFields.{Applies, Completes, IsFault, IsGrowing, IsSettled, Settles, front_of, reader_state, region_items};
+ghost use Rattle.xr_record.specs.ReaderFields.{Applies, Completes, IsFault, IsGrowing, AwaitsMore, Settles, front_of, reader_state, region_items};
 ghost use Rattle.xr_record.specs.ReaderFields.{HasCountBytes, TakesBytes, IsWholeOperation};
 
 use crate::entry::{Entry, Regions};
@@ -40,7 +40,7 @@ fn front_of(stage: Stage) -> usize
 
 /// Adds bytes of the piece to those of the operation, none past its end, and says how many.
 pub fn grow(reader: &mut ReaderFields, piece: &[u8]) -> Result<usize, NoMemory>
-    requires settled { IsSettled reader.old }
+    requires awaits { AwaitsMore reader.old }
     requires some { 0 < length piece.now }
     ensures grown { IfOk result (λ n. TakesBytes reader.old reader.new (take n piece.now)) }
     ensures count { IfOk result (λ n. (0 < n) × (n ≤ length piece.now)) }
@@ -180,7 +180,7 @@ fn complete(
 ) -> Result<Option<Entry>, FeedFault>
     requires growing { IsGrowing reader.old }
     requires header { IsWholeOperation reader.old fields.now sort }
-    ensures settled { IfOk result (λ _. IsSettled reader.new) }
+    ensures awaits { IfOk result (λ _. AwaitsMore reader.new) }
     ensures completes { IfOk result (Completes (reader_state reader.old) (reader_state reader.new)) }
     ensures fault { IfErr result (IsFault (reader_state reader.old)) }
 {
@@ -206,7 +206,7 @@ fn complete(
 /// Tests the operation as far as it has come, and completes it where it is whole.
 pub fn settle(reader: &mut ReaderFields, alloc: Global) -> Result<Option<Entry>, FeedFault>
     requires { IsGrowing reader.old }
-    ensures settled { IfOk result (λ _. IsSettled reader.new) }
+    ensures awaits { IfOk result (λ _. AwaitsMore reader.new) }
     ensures settles { IfOk result (Settles (reader_state reader.old) (reader_state reader.new)) }
     ensures fault { IfErr result (IsFault (reader_state reader.old)) }
 {

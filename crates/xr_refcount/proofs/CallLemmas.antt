@@ -9,9 +9,9 @@ use Rattle.xr_kinds.specs.SpanLaws.{group_run}
 use Rattle.xr_kinds.specs.Spans.{IsIn, is_group_run, meet, span}
 use Rattle.xr_kinds.specs.declared.reference.Reference.{Reference}
 use Rattle.xr_kinds.specs.declared.span.Span.{Span}
-use Rattle.xr_refcount.specs.Calls.{IsFirstEqual, Lowers, Raises, Unstages}
+use Rattle.xr_refcount.specs.Calls.{IsFirstEqual, Lowers, Raises, UnstagesRun}
 use Rattle.xr_refcount.specs.CountLaws.{behind_it, in_cases, inside, of_records, refuted, staged_count, valid_in, valid_run}
-use Rattle.xr_refcount.specs.Counts.{IsEqualPart, IsUnrecorded, is_staged_at}
+use Rattle.xr_refcount.specs.Counts.{AreCountedAs, IsUnrecorded, is_staged_at}
 use Rattle.xr_refcount.specs.Marks.{IsFirstMeeting, IsHeldRun, MeetsNone, SetsRun, TouchesOnly, shared_run}
 use Rattle.xr_refcount.proofs.JoinLemmas.{agrees_if, joins_labels}
 use Rattle.xr_refcount.proofs.RecordRuleLemmas.{near_by}
@@ -44,19 +44,19 @@ then_sets xs ys zs run count more staged kind one two =
 
 module _ (xs : List Reference) (rules : AreRecords reference_form xs) (run : Span) where
   -- no record meets a run whose blocks have no record
-  pub none_meets : IsEqualPart xs run 1 false → MeetsNone xs run
+  pub none_meets : AreCountedAs xs run 1 false → MeetsNone xs run
   none_meets plain x held = refuted (meet (reference_span x) run) (λ meets.
       let known = of_records xs rules in
       let both = in_both (reference_span x) run meets in
       known.plain (max x.start run.start) (plain (max x.start run.start) both.1) x held both.0)
 
   -- and where none does, they have none
-  pub plain_part : MeetsNone xs run → IsEqualPart xs run 1 false
+  pub plain_part : MeetsNone xs run → AreCountedAs xs run 1 false
   plain_part none n within =
       let known = of_records xs rules in
       known.untold n (λ x held inside. let meets = meet_if (reference_span x) run n inside within in let lie = none x held in absurd cc)
 
-  pub staged_part : ((n : ℕ) → IsIn run n → is_staged_at xs n ≡ true) → IsEqualPart xs run 1 true
+  pub staged_part : ((n : ℕ) → IsIn run n → is_staged_at xs n ≡ true) → AreCountedAs xs run 1 true
   staged_part staged n within =
       let known = of_records xs rules in
       ⊎_elim
@@ -68,7 +68,7 @@ module _ (xs : List Reference) (rules : AreRecords reference_form xs) (run : Spa
       (known.known n)
 
   module _ (held : Reference) (first : IsFirstMeeting xs run held) where
-    module _ (count : ℕ) (staged : Bool) (good : is_group_run run ≡ true) (alike : IsEqualPart xs run count staged) where
+    module _ (count : ℕ) (staged : Bool) (good : is_group_run run ≡ true) (alike : AreCountedAs xs run count staged) where
       both : IsIn (reference_span held) (max held.start run.start) × IsIn run (max held.start run.start)
       both = in_both (reference_span held) run first.meets
 
@@ -80,7 +80,7 @@ module _ (xs : List Reference) (rules : AreRecords reference_form xs) (run : Spa
           let is = alike (max held.start run.start) both.1 in
           (sym is.owners ∙ told.owners, sym is.kind ∙ told.kind)
 
-      pub held_part : IsEqualPart xs run held.count staged
+      pub held_part : AreCountedAs xs run held.count staged
       held_part n within = let is = alike n within in record { owners = is.owners ∙ same_part.0; kind = is.kind }
 
       pub held_run : IsHeldRun xs held run
@@ -91,7 +91,7 @@ module _ (xs : List Reference) (rules : AreRecords reference_form xs) (run : Spa
           record { held = first.held; some = omega (arith, some.1); from = lies.0; until = lies.1 }
 
     -- a shared one
-    module _ (count : ℕ) (good : is_group_run run ≡ true) (alike : IsEqualPart xs run count false) where
+    module _ (count : ℕ) (good : is_group_run run ≡ true) (alike : AreCountedAs xs run count false) where
       pub is_shared : 2 ≤ held.count
       is_shared = let same = same_part count false good alike in two_own held (valid_in xs rules held first.held) (sym same.1)
 
@@ -139,7 +139,7 @@ other_agrees ys run count more only differs x held apart = agrees_if x (shared_r
     differs (sym label.0 ∙ only x held parts.1))
 
 -- the blocks of a run have another count than the one that they had
-module _ (xs ys : List Reference) (run : Span) (count left : ℕ) (alike : IsEqualPart xs run count false) (set : SetsRun xs run left false ys) where
+module _ (xs ys : List Reference) (run : Span) (count left : ℕ) (alike : AreCountedAs xs run count false) (set : SetsRun xs run left false ys) where
   kinds_stay : (n : ℕ) → is_staged_at ys n ≡ is_staged_at xs n
   kinds_stay n = ⊎_elim
       (λ within. let was = alike n within.1 in let is = set_in xs run left false ys set n within.1 in is.kind ∙ sym was.kind)
@@ -164,7 +164,7 @@ module _ (xs ys : List Reference) (run : Span) (count left : ℕ) (alike : IsEqu
     staged = kinds_stay;
   }
 
-pub unstaged : (xs ys : List Reference) (run : Span) → IsEqualPart xs run 1 true → SetsRun xs run 1 false ys → Unstages xs run ys
+pub unstaged : (xs ys : List Reference) (run : Span) → AreCountedAs xs run 1 true → SetsRun xs run 1 false ys → UnstagesRun xs run ys
 unstaged xs ys run alike set = record {
   counts = λ n. ⊎_elim
       (λ within. let was = alike n within.1 in let is = set_in xs run 1 false ys set n within.1 in is.owners ∙ sym was.owners)

@@ -12,7 +12,7 @@ use Rattle.xr_kinds.specs.SpanLaws.{group_run}
 use Rattle.xr_kinds.specs.Spans.{IsIn, end_of, meet}
 use Rattle.xr_kinds.specs.declared.reference.Reference.{Reference}
 use Rattle.xr_refcount.specs.CountLaws.{in_cases, of_records, valid_in, valid_run}
-use Rattle.xr_refcount.specs.Marks.{IsAlikeAt, IsBehind, IsInFront, MayJoin, MeetsNone, NoneBehind, NoneInFront, SetsRun, joins}
+use Rattle.xr_refcount.specs.Marks.{IsAlikeAt, IsBehind, IsInFront, MayMerge, MeetsNone, NoneBehind, NoneInFront, SetsRun, joins}
 use Rattle.xr_refcount.proofs.RecordRuleLemmas.{sides}
 use Rattle.xr_refcount.proofs.SetRunLemmas.{grown_run, lost_run, set_in, set_out, sets_run, still_at}
 
@@ -100,7 +100,7 @@ joined_agrees x new other start lower good one two touches away apart =
 
 module _ (xs : List Reference) (rules : AreRecords reference_form xs) (new : Reference) where
   -- with one other
-  module _ (other : Reference) (may : MayJoin xs new (Some other)) (start : ℕ) (lower : start ≡ min new.start other.start) where
+  module _ (other : Reference) (may : MayMerge xs new (Some other)) (start : ℕ) (lower : start ≡ min new.start other.start) where
     pub joined_fits : (x : Reference) → Contains xs x → x ≢ other → reference_form.agree x (joined new other start) ≡ true
     joined_fits x held differs =
         let beside = may.held in
@@ -160,7 +160,7 @@ module _ (xs : List Reference) (rules : AreRecords reference_form xs) (new : Ref
         let beside = joins_behind x new (valid_in xs rules x found.0) good (fits x found.0) found.1 found.2 in (found.0, beside.0, beside.1)
 
     -- only the one in front
-    pub joins_left : (left : Reference) → IsInFront xs new left → NoneBehind xs new → MayJoin xs new (Some left)
+    pub joins_left : (left : Reference) → IsInFront xs new left → NoneBehind xs new → MayMerge xs new (Some left)
     joins_left left front none = record {
       good = good;
       held = (front.0, front.1);
@@ -180,7 +180,7 @@ module _ (xs : List Reference) (rules : AreRecords reference_form xs) (new : Ref
     -- only the one behind, if there is one
     pub joins_right : (right : Option Reference) → NoneInFront xs new
         → (IsNone right → NoneBehind xs new)
-        → IfSome right (IsBehind xs new) → MayJoin xs new right
+        → IfSome right (IsBehind xs new) → MayMerge xs new right
     joins_right None left none found = record {
       good = good;
       held = tt;
@@ -229,7 +229,7 @@ module _ (xs ys : List Reference) (rules : AreRecords reference_form xs) (still 
       let two = apart_sides x new valid good (fits x kept.1) in
       away_if x Both (grind (arith, some, one, two, behind.2))
 
-  pub joins_both : MayJoin ys Both (Some left)
+  pub joins_both : MayMerge ys Both (Some left)
   joins_both =
       let label = joins_labels left new front.1 in
       let label_next = joins_labels next new behind.1 in

@@ -25,12 +25,12 @@ pub record IsCountedAs (records : List Reference) (n count : ℕ) (staged : Bool
   pub kind : is_staged_at records n ≡ staged
 
 -- so has each block of a run
-abbrev pub IsEqualPart : List Reference → Span → ℕ → Bool → Type 0
-IsEqualPart records run count staged = (n : ℕ) → IsIn run n → IsCountedAs records n count staged
+abbrev pub AreCountedAs : List Reference → Span → ℕ → Bool → Type 0
+AreCountedAs records run count staged = (n : ℕ) → IsIn run n → IsCountedAs records n count staged
 
 -- each has as many owners as the first, and none is staged
 abbrev pub AreOwnedAlike : List Reference → Span → Type 0
-AreOwnedAlike records run = IsEqualPart records run (count_at records run.start) false
+AreOwnedAlike records run = AreCountedAs records run (count_at records run.start) false
 
 -- no record holds a block
 abbrev pub IsUnrecorded : List Reference → ℕ → Type 0

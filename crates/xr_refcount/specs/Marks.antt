@@ -57,7 +57,7 @@ abbrev pub NoneBehind : List Reference → Reference → Type 0
 NoneBehind records new = (x : Reference) → Contains records x → joins x new ≡ true → x.start ≤ new.start
 
 -- a record that may come into the tree, alone or as one with another that it touches
-pub record MayJoin (records : List Reference) (r : Reference) (beside : Option Reference) : Type 0 where
+pub record MayMerge (records : List Reference) (r : Reference) (beside : Option Reference) : Type 0 where
   pub good : is_reference r ≡ true
   pub held : IfSome beside (λ x. Contains records x × (joins x r ≡ true))
   pub fits : MeetsNone records (reference_span r)

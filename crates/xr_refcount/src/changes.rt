@@ -6,7 +6,7 @@ ghost use Rattle.xr_kinds.specs.declared.reference.Reference.{Reference};
 ghost use Rattle.xr_kinds.specs.Reference.{is_reference, reference_form, reference_span};
 ghost use Rattle.xr_kinds.specs.Spans.{meet};
 ghost use Rattle.xr_pool.specs.Overlay.{free_count};
-ghost use Rattle.xr_refcount.specs.Marks.{IsBehind, IsHeldRun, IsInFront, MayJoin, MeetsNone, NoneBehind, NoneInFront};
+ghost use Rattle.xr_refcount.specs.Marks.{IsBehind, IsHeldRun, IsInFront, MayMerge, MeetsNone, NoneBehind, NoneInFront};
 ghost use Rattle.xr_refcount.specs.Marks.{SetsRun, TouchesOnly, shared_run};
 ghost use Rattle.xr_refcount.specs.Refcount.{IsReferenceStep, IsRefcount, reference_records};
 
@@ -118,7 +118,7 @@ impl Refcount {
     /// Puts a record in that would be one with at most one other.
     fn join(&mut self, over: &mut Overlay, new: Reference, beside: Option<Reference>)
         requires tree { IsRefcount over.old self.old }
-        requires loose { MayJoin (reference_records over.old self.old) new beside }
+        requires loose { MayMerge (reference_records over.old self.old) new beside }
         requires room { 2 ≤ free_count over.old }
         ensures step { IsReferenceStep over.old self.old over.new self.new 2 7 }
         ensures set { SetsRun (reference_records over.old self.old) (reference_span new) new.count new.staged (reference_records over.new self.new) }

@@ -2,7 +2,7 @@
 ghost use Rattle.std.specs.Prelude.{◌≡◌, true, false};
 ghost use Rattle.xr_kinds.specs.Spans.{is_group_run};
 ghost use Rattle.xr_pool.specs.Overlay.{free_count};
-ghost use Rattle.xr_refcount.specs.Counts.{IsEqualPart, count_at};
+ghost use Rattle.xr_refcount.specs.Counts.{AreCountedAs, count_at};
 ghost use Rattle.xr_refcount.specs.Refcount.{IsRefcount, reference_records};
 
 use crate::Refcount;
@@ -27,7 +27,7 @@ pub(crate) fn free_blocks(over: &Overlay) -> u32
 pub(crate) fn count_of(rt: &impl Abort, over: &Overlay, counts: &Refcount, run: Span) -> u32
     requires { IsRefcount over.now counts.now }
     ensures good { is_group_run run ≡ true }
-    ensures alike { IsEqualPart (reference_records over.now counts.now) run result false }
+    ensures alike { AreCountedAs (reference_records over.now counts.now) run result false }
     ensures count { count_at (reference_records over.now counts.now) run.start ≡ result }
 {
     assert!(rt; run.is_group_run());

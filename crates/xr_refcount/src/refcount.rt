@@ -2,8 +2,8 @@
 ghost use Rattle.std.specs.Prelude.{◌≡◌, ℕ, ◌<◌, ◌≤◌, ◌==◌, not, true, false, IsTrue};
 ghost use Rattle.xr_kinds.specs.Spans.{IsIn, is_group_run};
 ghost use Rattle.xr_pool.specs.Overlay.{free_count};
-ghost use Rattle.xr_refcount.specs.Calls.{IsFirstEqual, Lowers, Raises, Stages, Unstages};
-ghost use Rattle.xr_refcount.specs.Counts.{AreOwnedAlike, IsEqualPart, count_at, is_staged_at};
+ghost use Rattle.xr_refcount.specs.Calls.{IsFirstEqual, Lowers, Raises, StagesRun, UnstagesRun};
+ghost use Rattle.xr_refcount.specs.Counts.{AreOwnedAlike, AreCountedAs, count_at, is_staged_at};
 ghost use Rattle.xr_refcount.specs.Refcount.{IsReferenceStep, IsRefcount, reference_records};
 
 use crate::changes::shared;
@@ -121,10 +121,10 @@ impl Refcount {
     pub fn stage(&mut self, over: &mut Overlay, run: Span)
         requires tree { IsRefcount over.old self.old }
         requires good { is_group_run run ≡ true }
-        requires alone { IsEqualPart (reference_records over.old self.old) run 1 false }
+        requires alone { AreCountedAs (reference_records over.old self.old) run 1 false }
         requires room { 2 ≤ free_count over.old }
         ensures step { IsReferenceStep over.old self.old over.new self.new 2 14 }
-        ensures staged { Stages (reference_records over.old self.old) run (reference_records over.new self.new) }
+        ensures staged { StagesRun (reference_records over.old self.old) run (reference_records over.new self.new) }
     {
         let staged = Reference {
             start: run.start,
@@ -143,7 +143,7 @@ impl Refcount {
         requires staged { (n : ℕ) → IsIn run n → is_staged_at (reference_records over.old self.old) n ≡ true }
         requires room { 2 ≤ free_count over.old }
         ensures step { IsReferenceStep over.old self.old over.new self.new 2 14 }
-        ensures unstaged { Unstages (reference_records over.old self.old) run (reference_records over.new self.new) }
+        ensures unstaged { UnstagesRun (reference_records over.old self.old) run (reference_records over.new self.new) }
     {
         if let Some(held) = self.first_meeting(over, run) {
             self.carve(over, &held, run);

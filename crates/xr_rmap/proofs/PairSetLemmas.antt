@@ -9,7 +9,7 @@ use Rattle.xr_kinds.specs.Reverse.{is_reverse, reverse_form}
 use Rattle.xr_kinds.specs.ReverseLaws.{is_reverse_form}
 use Rattle.xr_kinds.specs.declared.reverse.Reverse.{Reverse}
 use Rattle.xr_rmap.proofs.PartLemmas.{front_fits, front_part, part_fits, part_says, rest_part, says_part}
-use Rattle.xr_rmap.specs.Joins.{IsPartOf, Shortens, front_of, rest_after}
+use Rattle.xr_rmap.specs.Joins.{IsPartOf, Shortens, record_front, rest_after}
 use Rattle.xr_rmap.specs.PairLaws.{first_pair, one_record, same_clash, valid_in}
 use Rattle.xr_rmap.specs.Pairs.{HasPairIn, IsPair}
 
@@ -71,12 +71,12 @@ module _ (xs : List Reverse) (rules : AreRecords reverse_form xs) (whole part : 
   good : is_reverse whole ≡ true
   good = valid_in xs rules whole held
 
-  in_front : 0 < len → IsPartOf (front_of whole len) whole
+  in_front : 0 < len → IsPartOf (record_front whole len) whole
   in_front some = front_part whole good len some (omega (arith, is.up_to))
 
   pub rest_fits : 0 < rest.len → (x : Reverse) → Q x → reverse_form.agree x rest ≡ true
   rest_fits some x within = ⊎_elim
-      (λ (first : (0 < len) × (x ≡ front_of whole len)). rw first.1 (front_fits whole part is))
+      (λ (first : (0 < len) × (x ≡ record_front whole len)). rw first.1 (front_fits whole part is))
       (λ (kept : (x ≢ whole) × Contains xs x). part_fits rest whole (rest_part part whole is some) x (agrees xs rules x whole kept.1 held kept.0))
       ((front x).0 within)
 
@@ -88,9 +88,9 @@ module _ (xs : List Reverse) (rules : AreRecords reverse_form xs) (whole part : 
     left_of_rest some says =
         ((whole, held, part_says rest whole (rest_part part whole is some) w o n says), λ gone. absurd (omega (arith, says.from, gone.below)))
 
-    left_of_front : 0 < len → IsPair (front_of whole len) w o n → Left
+    left_of_front : 0 < len → IsPair (record_front whole len) w o n → Left
     left_of_front some says =
-        ((whole, held, part_says (front_of whole len) whole (in_front some) w o n says), λ gone. absurd (omega (arith, says.below, gone.from)))
+        ((whole, held, part_says (record_front whole len) whole (in_front some) w o n says), λ gone. absurd (omega (arith, says.below, gone.from)))
 
     left_of_other : (x : Reverse) → x ≢ whole → Contains xs x → IsPair x w o n → Left
     left_of_other x other within says =
@@ -100,7 +100,7 @@ module _ (xs : List Reverse) (rules : AreRecords reverse_form xs) (whole part : 
     stays_of_whole says not = ⊎_elim
         (λ (before : n < part.start).
         let some : 0 < len = omega (arith, says.from, before) in
-        let first : Reverse = front_of whole len in
+        let first : Reverse = record_front whole len in
         (first, (each first).1 (inr ((front first).1 (inl (some, refl)))), says_part first whole (in_front some) w o n says says.from (omega (arith, before))))
         (λ (from : part.start ≤ n). ⊎_elim
         (λ (inside : n < part.start + part.len). absurd (not (says_part part whole is w o n says from inside)))
@@ -115,7 +115,7 @@ module _ (xs : List Reverse) (rules : AreRecords reverse_form xs) (whole part : 
       λ found. ⊎_elim
           (λ (last : (0 < rest.len) × (found.0 ≡ rest)). left_of_rest last.0 (rw last.1 at found.2))
           (λ (kept : Q found.0). ⊎_elim
-          (λ (first : (0 < len) × (found.0 ≡ front_of whole len)). left_of_front first.0 (rw first.1 at found.2))
+          (λ (first : (0 < len) × (found.0 ≡ record_front whole len)). left_of_front first.0 (rw first.1 at found.2))
           (λ (other : (found.0 ≢ whole) × Contains xs found.0). left_of_other found.0 other.0 other.1 found.2)
           ((front found.0).0 kept))
           ((each found.0).0 found.1),

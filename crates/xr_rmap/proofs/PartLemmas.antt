@@ -7,7 +7,7 @@ use Rattle.xr_block.specs.Tree.{AreRecords}
 use Rattle.xr_kinds.specs.Reverse.{is_reverse, reverse_form, reverse_span}
 use Rattle.xr_kinds.specs.Spans.{end_of}
 use Rattle.xr_kinds.specs.declared.reverse.Reverse.{Reverse}
-use Rattle.xr_rmap.specs.Joins.{IsPartOf, front_of, rest_after}
+use Rattle.xr_rmap.specs.Joins.{IsPartOf, record_front, rest_after}
 use Rattle.xr_rmap.specs.PairLaws.{nothing_after, some_blocks}
 use Rattle.xr_rmap.specs.Pairs.{HasPairIn, IsPair, leads_to, offset_after}
 
@@ -36,7 +36,7 @@ module _ (part whole : Reverse) (is : IsPartOf part whole) where
     }
 
 -- the first blocks of a record, and those behind a part of it
-pub front_part : (r : Reverse) → is_reverse r ≡ true → (len : ℕ) → 0 < len → len ≤ r.len → IsPartOf (front_of r len) r
+pub front_part : (r : Reverse) → is_reverse r ≡ true → (len : ℕ) → 0 < len → len ≤ r.len → IsPartOf (record_front r len) r
 front_part r good len some fits =
     record { some = some; same_owner = refl; from = omega arith; up_to = omega (arith, fits); at = grind (arith, nat_tests) }
 
@@ -50,7 +50,7 @@ rest_part part whole is some = record {
 }
 
 -- the two have a block of the part between them
-pub front_fits : (whole part : Reverse) → IsPartOf part whole → reverse_form.agree (front_of whole (part.start - whole.start)) (rest_after whole part) ≡ true
+pub front_fits : (whole part : Reverse) → IsPartOf part whole → reverse_form.agree (record_front whole (part.start - whole.start)) (rest_after whole part) ≡ true
 front_fits whole part is = grind (arith, nat_tests, is.some, is.from)
 
 -- all pairs of a record that are there stand in one other, that of the first

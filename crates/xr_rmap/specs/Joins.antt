@@ -26,8 +26,8 @@ pub record IsPartOf (part whole : Reverse) : Type 0 where
   pub at : (if whole.owner == OWN_COW then part.off == 0 else part.off + whole.start == whole.off + part.start) ≡ true
 
 -- the first blocks of a record, and those behind a part of it
-abbrev pub front_of : Reverse → ℕ → Reverse
-front_of r len = record { start = r.start; len = len; owner = r.owner; off = r.off }
+abbrev pub record_front : Reverse → ℕ → Reverse
+record_front r len = record { start = r.start; len = len; owner = r.owner; off = r.off }
 
 abbrev pub rest_after : Reverse → Reverse → Reverse
 rest_after whole part = record {
@@ -39,4 +39,4 @@ rest_after whole part = record {
 
 -- only the first blocks of a record are left, or it is gone if there are none
 abbrev pub Shortens : (Reverse → Type 0) → Reverse → ℕ → (Reverse → Type 0) → Type 0
-Shortens before whole len after = (x : Reverse) → after x ↔ (((0 < len) × (x ≡ front_of whole len)) ⊎ ((x ≢ whole) × before x))
+Shortens before whole len after = (x : Reverse) → after x ↔ (((0 < len) × (x ≡ record_front whole len)) ⊎ ((x ≢ whole) × before x))

@@ -6,7 +6,7 @@ use std::alloc::AllocError;
 use std::process::Abort;
 use std::test::Fail;
 use std::{env, fs, process};
-use xr_disk::{Call, Disk, FileDisk, MemDisk};
+use xr_disk::{Call, Disk, FileDisk, MemDisk, Pick};
 
 /// Calls of `mkfs`: a write a block and one more, and three syncs.
 const MKFS_CALLS: u32 = 8972;
@@ -138,6 +138,37 @@ fn keeps_calls_in_memory(rt: HostRuntime) -> Result<(), Fail> {
     assert_eq!(rt; disk.done.as_slice(), DONE.as_slice());
     assert!(rt; disk.image.get(1536) == Some(&1) && disk.synced.get(1536) == Some(&1));
     assert!(rt; disk.bytes.get(1023) == Some(&3));
+    Ok(())
+}
+
+/// Each byte of a sector in memory is this one.
+fn has_sector(rt: &impl Abort, disk: &mut MemDisk, at: u32, byte: u8) {
+    let mut sector = [9; 512];
+    assert!(rt; at < 71_744 && disk.read(at, &mut sector).is_ok());
+    assert_eq!(rt; sector, [byte; 512]);
+}
+
+#[test]
+fn crashes_as_is_picked(rt: HostRuntime) -> Result<(), Fail> {
+    let mut disk = blank(rt.alloc(), &[], None, 16, 8_192)?;
+    assert!(rt; disk.write(0, &[1; 1024]).is_ok() && disk.sync().is_ok());
+    // In flight, with the picks old, half, new and none.
+    assert!(rt; disk.write(0, &[2; 1024]).is_ok() && disk.write(2, &[3; 1536]).is_ok());
+    assert!(rt; disk.write(5, &[4; 1024]).is_ok() && disk.write(7, &[5; 512]).is_ok());
+    let mut left = disk.after_crash(&[Pick::Old, Pick::Half, Pick::New]);
+    assert_eq!(rt; (left.moment(), left.faults()), (0, 0));
+    for (at, byte) in [
+        (0, 1),
+        (1, 1),
+        (2, 3),
+        (3, 0),
+        (4, 0),
+        (5, 4),
+        (6, 4),
+        (7, 5),
+    ] {
+        has_sector(&rt, &mut left, at, byte);
+    }
     Ok(())
 }
 

@@ -1,7 +1,7 @@
 use Rattle.std.proofs.Common.{◌-◌, ◌*◌, ◌≤◌, ◌++◌, ℕ, sym, length, ◌∙◌, ap, arith, refl}
 use Rattle.std.proofs.Math.Nat.{mul-le-mul_right}
 use Rattle.xr_base.specs.Image.{part}
-use Rattle.xr_block.specs.TreeBlock.{zero_padded}
+use Rattle.xr_block.specs.TreeBlock.{zero_filled}
 use Rattle.xr_block.proofs.LeafBuildLemmas.{leaf_gathered, stretch_within, stretch_size}
 use Rattle.xr_block.proofs.edit_leaf.gather_leaf.Goals as goal
 
@@ -41,5 +41,5 @@ returns g c = λ site place one other xs ys names is_first is_second.
     (c.put_header.ensures site place names) (omega (arith, split.ensures.back_len, c.told-out, c.header_size.ensures))
     one other xs ys c.args.from c.args.to c.args.first.now c.args.second.now c.record_bytes.result.now c.record_bytes-2.result.now c.told-first c.told-second is_first is_second
     c.record_bytes.ensures.value c.record_bytes-2.ensures.value c.requires.order c.requires.within (omega (arith, c.requires.room, g.met.R.Record.numbers.same_leaf_max)) refl
-    (c.gather_items.ensures ∙ ap (λ (n : ℕ). zero_padded (length split.result.1.now)
+    (c.gather_items.ensures ∙ ap (λ (n : ℕ). zero_filled (length split.result.1.now)
     (part (n * c.args.from) (n * c.args.to - n * c.args.from) (c.record_bytes.result.now ++ c.record_bytes-2.result.now))) size)

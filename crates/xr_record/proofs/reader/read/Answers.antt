@@ -28,7 +28,7 @@ loop-done-preserved c =
     let more = takes_more (reader_state c.args.reader.now) (reader_state c.loop-done.reader) (reader_state c.take_operation.new.reader) (take done piece) (take n (drop done piece))
     c.loop-done.entries.items (option_to_list c.in_ok-advance.advance.entry) is.reads taken in
     record {
-      settled = c.in_ok-advance.ensures.settled;
+      awaits = c.in_ok-advance.ensures.awaits;
       within = omega (arith, length-drop done piece, count.1, is.within);
       reads = rw (take-add done n piece, c.in_ok-push_entry.ensures) more;
     }

@@ -12,8 +12,8 @@ returns-clause-grown c =
     let long : 12 ≤ length k.header.items = omega arith in
     let len : c.fields_in-len.result.len ≡ (fields k.header.items).len = ap (λ (f : Fields). f.len) (c.fields_in-len.ensures.fields ∙ ap fields c.deref.ensures.value) in
     let had : c.len-2.result ≡ length k.body.items = c.len-2.ensures ∙ k.body.ok.0 in
-    let less = c.requires.settled.less long in
-    let front = c.requires.settled.growing.front in
+    let less = c.requires.awaits.less long in
+    let front = c.requires.awaits.growing.front in
     let taken = length-append k.body.items (take c.min-n-2.result c.args.piece.now) in
     let n = length-take-le c.min-n-2.result c.args.piece.now (omega arith) in
-    body_grown k _ (take c.min-n-2.result c.args.piece.now) c.requires.settled refl refl refl refl (c.in_ok-extend_from_slice-2.ensures.items) long (omega arith)
+    body_grown k _ (take c.min-n-2.result c.args.piece.now) c.requires.awaits refl refl refl refl (c.in_ok-extend_from_slice-2.ensures.items) long (omega arith)
