@@ -110,17 +110,17 @@ pub alone : {C : Committed} {P P' : List Debt} {M : FileMaps} {Q : ℕ → Bool}
     → IsSettled C P M Q → Rolls P i lane (Count Decrease run) new P' → in_run b run ≡ 1 → IsLastLowering C P M Q b
     → k < length (remove P i) → 0 < naming b (get_or (remove P i) k d).work → (get_or (remove P i) k d).lane ≡ lane
 alone {C} {P} {P'} {M} {Q} {i} {lane} {run} {new} b k d was rolls it last inside named =
-    let at = stayed P i k d rolls.inside inside in
+    let at = stayed P i k d rolls.first.inside inside in
     let e : Debt = in_lane lane (Count Decrease run) in
     let apart = was.blocks.counted_unstaged b (omega (arith, last.lowered_once)) in
     let part : (f : Work → ℕ) → f (get_or (remove P i) k d).work ≤ total f P = λ f.
-    omega (arith, get_or-le-sum_by (λ (x : Debt). f x.work) (remove P i) k d inside, sum_by-remove (λ (x : Debt). f x.work) P i e rolls.inside) in
+    omega (arith, get_or-le-sum_by (λ (x : Debt). f x.work) (remove P i) k d inside, sum_by-remove (λ (x : Debt). f x.work) P i e rolls.first.inside) in
     let low : lowered b (get_or (remove P i) k d).work ≡ 0 =
     omega (
       arith,
       get_or-le-sum_by (λ (x : Debt). lowered b x.work) (remove P i) k d inside,
-      sum_by-remove (λ (x : Debt). lowered b x.work) P i e rolls.inside,
-      ap (λ (x : Debt). lowered b x.work) (rolls.is_work e),
+      sum_by-remove (λ (x : Debt). lowered b x.work) P i e rolls.first.inside,
+      ap (λ (x : Debt). lowered b x.work) (rolls.first.is_work e),
       last.lowered_once,
       it,
     ) in

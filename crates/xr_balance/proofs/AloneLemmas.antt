@@ -60,9 +60,9 @@ disowned_alone {P} {P'} {i} {lane} {w} b k d chains rolls low one answers mine i
     let at = in_chain P k d l inside refl in
     let answered : 0 < total (answering b) (chain_of P l) = answered_in b (chain_of P l) at.0 d (chains.chains l).order at.1 (rw (at.2) it) in
     let g : Debt → ℕ = λ e. answering b e.work in
-    let less : total (answering b) (remove P i) + answering b (get_or P i d).work ≡ total (answering b) P = sum_by-remove g P i d rolls.inside in
-    let is : answering b (get_or P i d).work ≡ answering b w = ap g (rolls.is_work d) in
-    let other : chain_of (remove P i) l ≡ chain_of P l = chain-other P i lane l w rolls.inside rolls.is_work (λ e. ne (sym e)) in
+    let less : total (answering b) (remove P i) + answering b (get_or P i d).work ≡ total (answering b) P = sum_by-remove g P i d rolls.first.inside in
+    let is : answering b (get_or P i d).work ≡ answering b w = ap g (rolls.first.is_work d) in
+    let other : chain_of (remove P i) l ≡ chain_of P l = chain-other P i lane l w rolls.first.inside rolls.first.is_work (λ e. ne (sym e)) in
     let bound = chain-le (answering b) (remove P i) l in
     absurd (omega (arith, answered, less, is, ap (total (answering b)) other, bound, one, answers, mine)))
     (cases_eq (get_or P k d).lane lane)

@@ -5,6 +5,7 @@ use Rattle.std.proofs.lemmas.Bool.{cases_eq, eq-eqb, ne_eqb}
 use Rattle.xr_items.specs.declared.work.Work.{Work}
 use Rattle.xr_balance.specs.Rolls.{Rolls, in_lane}
 use Rattle.xr_balance.specs.Settled.{chain_of}
+use Rattle.xr_balance.specs.Stagings.{BeginsChain}
 use Rattle.xr_balance.specs.Works.{Debt}
 
 pub chain-append : (P R : List Debt) (l : ℕ) → chain_of (P ++ R) l ≡ chain_of P l ++ chain_of R l
@@ -42,11 +43,20 @@ pub chain-rolls : {P P' : List Debt} {i lane : ℕ} {w : Work} {new : List Work}
     → (rest : List Debt) × (chain_of P lane ≡ in_lane lane w ∷ rest) × (chain_of P' lane ≡ rest ++ map (in_lane lane) new)
 chain-rolls {P} {P'} {i} {lane} {w} {new} rolls = (
   chain_of (remove P i) lane,
-  chain-first P i lane w rolls.inside rolls.is_work rolls.first,
+  chain-first P i lane w rolls.first.inside rolls.first.is_work rolls.first.none_before,
   ap (λ R. chain_of R lane) rolls.after ∙ chain-append (remove P i) (map (in_lane lane) new) lane ∙ ap (λ R. chain_of (remove P i) lane ++ R) (chain-new lane new),
 )
 
 pub chain-rolls-other : {P P' : List Debt} {i lane l : ℕ} {w : Work} {new : List Work} → Rolls P i lane w new P' → lane ≢ l → chain_of P' l ≡ chain_of P l
 chain-rolls-other {P} {P'} {i} {lane} {l} {w} {new} rolls ne =
     ap (λ R. chain_of R l) rolls.after ∙ chain-append (remove P i) (map (in_lane lane) new) l
-    ∙ rw (chain-new-other lane l new ne) (append-nil (chain_of (remove P i) l)) ∙ chain-other P i lane l w rolls.inside rolls.is_work ne
+    ∙ rw (chain-new-other lane l new ne) (append-nil (chain_of (remove P i) l)) ∙ chain-other P i lane l w rolls.first.inside rolls.first.is_work ne
+
+-- the chain that begins, and the others
+pub chain-begun : {P P' : List Debt} {lane : ℕ} {new : List Work} → BeginsChain P lane new P' → chain_of P' lane ≡ map (in_lane lane) new
+chain-begun {P} {P'} {lane} {new} begins =
+    ap (λ R. chain_of R lane) begins.after ∙ chain-append P (map (in_lane lane) new) lane ∙ ap (λ c. c ++ chain_of (map (in_lane lane) new) lane) begins.idle ∙ chain-new lane new
+
+pub chain-begun-other : {P P' : List Debt} {lane : ℕ} {new : List Work} (l : ℕ) → lane ≢ l → BeginsChain P lane new P' → chain_of P' l ≡ chain_of P l
+chain-begun-other {P} {P'} {lane} {new} l ne begins =
+    ap (λ R. chain_of R l) begins.after ∙ chain-append P (map (in_lane lane) new) l ∙ rw (chain-new-other lane l new ne) (append-nil (chain_of P l))

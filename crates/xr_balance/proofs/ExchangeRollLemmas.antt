@@ -11,7 +11,7 @@ use Rattle.xr_items.specs.declared.work.Work.TheVariants.{Free, Own, Count, Map,
 use Rattle.xr_items.specs.Valid.{IsWork}
 use Rattle.xr_maps.specs.Holdings.{one_if}
 use Rattle.xr_balance.specs.Chains.{IsChain, exchanging}
-use Rattle.xr_balance.specs.ExchangeRolls.{RollsExchange}
+use Rattle.xr_balance.proofs.ExchangePremises.{RollsExchange}
 use Rattle.xr_balance.specs.Rolls.{Rolls, in_lane}
 use Rattle.xr_balance.specs.Settled.{Committed, IsPartedByLane, IsSettled, bringing, taking}
 use Rattle.xr_balance.specs.Works.{Debt, exchanging_at, freed, lowered, mapping, mapping_at, naming, naming_file, pairing, pairing_at, raised, staging, staging_pair, staging_unpair, total, unmapping, unmapping_at, unpairing, unpairing_at, unstaging}
@@ -55,7 +55,7 @@ exchange_roll_keeps C P P' M B' Q i lane w new was rolls it =
     let e : Debt = in_lane lane w in
     let none = only w it.is in
     let more : (g : Work → ℕ) → total g P' + g w ≡ total g P + sum_by g new = λ g. total-rolls g rolls in
-    let less : (g : Work → ℕ) → total g (remove P i) + g w ≡ total g P = λ g. omega (arith, sum_by-remove (λ (x : Debt). g x.work) P i e rolls.inside, ap (λ (x : Debt). g x.work) (rolls.is_work e)) in
+    let less : (g : Work → ℕ) → total g (remove P i) + g w ≡ total g P = λ g. omega (arith, sum_by-remove (λ (x : Debt). g x.work) P i e rolls.first.inside, ap (λ (x : Debt). g x.work) (rolls.first.is_work e)) in
     let Free' : (b : ℕ) → total (freed b) P' ≡ total (freed b) P = λ b. omega (arith, more (freed b), none.counts b, it.row.uncounted b) in
     let Raised : (b : ℕ) → total (raised b) P' ≡ total (raised b) P = λ b. omega (arith, more (raised b), none.counts b, it.row.uncounted b) in
     let Lowered : (b : ℕ) → total (lowered b) P' ≡ total (lowered b) P = λ b. omega (arith, more (lowered b), none.counts b, it.row.uncounted b) in
@@ -73,7 +73,7 @@ exchange_roll_keeps C P P' M B' Q i lane w new was rolls it =
     record {
       base = B';
       good_base = it.good;
-      good = was.good;
+      good_maps = was.good_maps;
       maps = record {
         base = λ f o b. omega (arith, was.maps.base f o b, it.base f o b, more (mapping f o b), more (unmapping f o b), none.maps f o b);
         exchanged = λ f o b. omega (
@@ -196,15 +196,15 @@ exchange_roll_keeps C P P' M B' Q i lane w new was rolls it =
     agrees : NewAgree (remove P i) lane new
     agrees = record {
       old = λ k d j v kl jl.
-          let len = length-remove P i rolls.inside in
+          let len = length-remove P i rolls.first.inside in
           record {
             file = λ f x y.
                 let mine : 0 < naming_file f w = it.files_within f (omega (arith, y, part_of (naming_file f) j v jl)) in
                 ⊎_elim
-                (λ below. ap (λ (z : Debt). z.lane) (get_or-remove_below P i d k below rolls.inside)
-                ∙ same_lane f k d (in_lane lane w) was.parted rolls.inside rolls.is_work (omega (arith, below, rolls.inside)) (subst (λ (z : Debt). 0 < naming_file f z.work) (get_or-remove_below P i d k below rolls.inside) x) mine)
-                (λ above. ap (λ (z : Debt). z.lane) (get_or-remove_above P i d k above rolls.inside)
-                ∙ same_lane f (k + 1) d (in_lane lane w) was.parted rolls.inside rolls.is_work (omega (arith, kl, len)) (subst (λ (z : Debt). 0 < naming_file f z.work) (get_or-remove_above P i d k above rolls.inside) x) mine)
+                (λ below. ap (λ (z : Debt). z.lane) (get_or-remove_below P i d k below rolls.first.inside)
+                ∙ same_lane f k d (in_lane lane w) was.parted rolls.first.inside rolls.first.is_work (omega (arith, below, rolls.first.inside)) (subst (λ (z : Debt). 0 < naming_file f z.work) (get_or-remove_below P i d k below rolls.first.inside) x) mine)
+                (λ above. ap (λ (z : Debt). z.lane) (get_or-remove_above P i d k above rolls.first.inside)
+                ∙ same_lane f (k + 1) d (in_lane lane w) was.parted rolls.first.inside rolls.first.is_work (omega (arith, kl, len)) (subst (λ (z : Debt). 0 < naming_file f z.work) (get_or-remove_above P i d k above rolls.first.inside) x) mine)
                 (cases_lt k i);
             before = λ b x y. absurd (omega (arith, y, no_gift b j v jl));
             after = λ b given. ⊎_elim
@@ -214,7 +214,7 @@ exchange_roll_keeps C P P' M B' Q i lane w new was rolls it =
                   given,
                   (owned_there b was (omega (arith, there))).1,
                   get_or-le-sum_by (λ (x : Debt). freed b x.work) (remove P i) k d kl,
-                  sum_by-remove (λ (x : Debt). freed b x.work) P i (in_lane lane w) rolls.inside,
+                  sum_by-remove (λ (x : Debt). freed b x.work) P i (in_lane lane w) rolls.first.inside,
                 )))
                 (λ zero. omega (arith, zero))
                 (cases_lt 0 (naming b (get_or new j v)));

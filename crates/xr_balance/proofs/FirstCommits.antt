@@ -1,5 +1,5 @@
 -- Events that begin a chain keep the balance.
-use Rattle.std.proofs.Common.{◌≡◌, ℕ, ◌+◌, ◌-◌, ◌<◌, ◌≤◌, List, ◌++◌, length, get_or, arith, refl, ap, sym, ◌∙◌, true, false, map, Bool, ⊎_elim, subst, append-nil, length-append}
+use Rattle.std.proofs.Common.{◌≡◌, ℕ, ◌+◌, ◌-◌, ◌<◌, ◌≤◌, List, ◌++◌, length, get_or, arith, refl, ap, sym, ◌∙◌, true, false, map, Bool, ⊎_elim, subst, length-append}
 use Rattle.std.specs.Prelude.{sum_by, IsTrue, All, AllPairs}
 use Rattle.std.proofs.lemmas.Bool.{cases_lt, cases_eq}
 use Rattle.std.proofs.lemmas.List.Sums.{sum_by-append, get_or-le-sum_by}
@@ -16,7 +16,7 @@ use Rattle.xr_balance.specs.Settled.{Agree, Committed, IsDataOf, IsPartedByLane,
 use Rattle.xr_balance.specs.Stagings.{BeginsChain}
 use Rattle.xr_balance.specs.Works.{Debt, IsLane, exchanging_at, freed, lowered, mapping, mapping_at, naming, naming_file, pairing, pairing_at, raised, staging, staging_pair, staging_unpair, total, unmapping, unmapping_at, unpairing, unpairing_at, unstaging}
 use Rattle.xr_balance.proofs.TotalLemmas.{sum_by-in_lane, count-gone}
-use Rattle.xr_balance.proofs.ChainLemmas.{chain-append, chain-new, chain-new-other}
+use Rattle.xr_balance.proofs.ChainLemmas.{chain-begun, chain-begun-other}
 use Rattle.xr_balance.proofs.PartedLemmas.{NewAgree, all_pairs_append, get_or-new}
 use Rattle.xr_balance.proofs.PartedRolls.{works_of, works-new}
 use Rattle.xr_balance.proofs.SumLemmas.{names-all, total-le, sum-le, mapping-le, unmapping-le, pairing-le, unpairing-le}
@@ -38,19 +38,16 @@ all_begin T P {P'} {lane} new after all fresh = subst (All T) (sym after) (λ k 
     (fresh (k - n) d.work (omega (arith, inside, long, count, right))))
     (cases_lt k n))
 
-pub begins_parted : {P P' : List Debt} {lane : ℕ} {new : List Work} → IsPartedByLane P → BeginsChain P lane new P' → NewAgree P lane new → IsPartedByLane P'
-begins_parted {P} {P'} {lane} {new} was begins agree =
+pub begins_parted : {P P' : List Debt} {lane : ℕ} {new : List Work} → IsPartedByLane P → BeginsChain P lane new P' → IsChain new → NewAgree P lane new → IsPartedByLane P'
+begins_parted {P} {P'} {lane} {new} was begins chain agree =
     record {
       lanes = all_begin (λ d. IsLane d.lane) P new begins.after was.lanes (λ k d l. begins.seat);
       agree = subst (AllPairs Agree) (sym begins.after) (all_pairs_append P (map (in_lane lane) new) was.agree agree.among
           (λ k j d kl jl. rw (get_or-new lane new j d (omega (arith, jl, length-map new (in_lane lane)))) (agree.old k d j d.work kl (omega (arith, jl, length-map new (in_lane lane))))));
       chains = λ l. ⊎_elim
-          (λ e. let is : chain_of P' l ≡ map (in_lane lane) new =
-          ap (λ m. chain_of P' m) (sym e) ∙ ap (λ R. chain_of R lane) begins.after ∙ chain-append P (map (in_lane lane) new) lane ∙ ap (λ c. c ++ chain_of (map (in_lane lane) new) lane) begins.idle ∙ chain-new lane new in
-          subst IsChain (sym (ap works_of is ∙ works-new lane new)) begins.chain)
-          (λ ne. let is : chain_of P' l ≡ chain_of P l =
-          ap (λ R. chain_of R l) begins.after ∙ chain-append P (map (in_lane lane) new) l ∙ rw (chain-new-other lane l new ne) (append-nil (chain_of P l)) in
-          subst (λ c. IsChain (works_of c)) (sym is) (was.chains l))
+          (λ e. let is : chain_of P' l ≡ map (in_lane lane) new = ap (λ m. chain_of P' m) (sym e) ∙ chain-begun begins in
+          subst IsChain (sym (ap works_of is ∙ works-new lane new)) chain)
+          (λ ne. subst (λ c. IsChain (works_of c)) (sym (chain-begun-other l ne begins)) (was.chains l))
           (cases_eq lane l);
     }
 
@@ -130,7 +127,7 @@ step_keeps {C} {P} {P'} {M} {M'} {B'} {Q} {Q'} {lane} {new} was it agree valid =
     record {
       base = B';
       good_base = it.good_base;
-      good = it.good;
+      good_maps = it.good;
       maps = record {
         base = λ f o b. omega (arith, was.maps.base f o b, it.base f o b, more (mapping f o b), more (unmapping f o b));
         exchanged = λ f o b. omega (arith, was.maps.exchanged f o b, it.base f o b, it.step f o b, it.takes f o b, it.brings f o b);
@@ -220,7 +217,7 @@ step_keeps {C} {P} {P'} {M} {M'} {B'} {Q} {Q'} {lane} {new} was it agree valid =
             (it.quiet f o);
       };
       valid = valid;
-      parted = begins_parted was.parted it.begins agree;
+      parted = begins_parted was.parted it.begins it.chain agree;
     }
 
 -- the row agrees with all that is pending

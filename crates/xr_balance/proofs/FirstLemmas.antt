@@ -14,7 +14,8 @@ use Rattle.xr_maps.specs.Steps.{is_within, applied, IsFileRange}
 use Rattle.xr_maps.specs.Holdings.{holds, one_if}
 use Rattle.xr_maps.specs.StepLaws.{punch_takes, remap_puts, steps_leave_good_maps}
 use Rattle.xr_items.specs.Valid.{IsWork, IsInode, KeepsOffsets}
-use Rattle.xr_balance.specs.FirstGives.{FirstGives, FirstHolds, FirstKeeps, IsHoleOrRun}
+use Rattle.xr_balance.specs.FirstGives.{FirstGives, FirstHolds, FirstKeeps}
+use Rattle.xr_balance.specs.Pieces.{IsHoleOrRun}
 use Rattle.xr_balance.specs.Lanes.{LanesHold}
 use Rattle.xr_balance.specs.Rows.{works_of_exchange, works_of_fresh, works_of_punch, works_of_share}
 use Rattle.xr_balance.specs.Settled.{Committed, IsSettled, chain_of}
@@ -23,13 +24,13 @@ use Rattle.xr_balance.proofs.SumLemmas.{at_most_one, run-range}
 use Rattle.xr_balance.proofs.FirstCommits.{first_keeps}
 use Rattle.xr_balance.proofs.PieceLemmas.{blocks_of, offsets_of, layout_of, FitsAt, Each, all_each, row_of_punch, row_of_share, row_of_fresh, piece_layout}
 use Rattle.xr_balance.proofs.StepLaneLemmas.{step_holds}
-use Rattle.xr_balance.proofs.WholeFirsts.{Begins, whole, file_agrees}
+use Rattle.xr_balance.proofs.WholeFirsts.{Begins, whole, file_agrees, uses_staged}
 use Rattle.xr_balance.proofs.SwapFirsts.{swap_whole}
 use Rattle.xr_balance.proofs.StagingEvents.{exchange_keeps}
 use Rattle.xr_balance.proofs.LaneLemmas.{idle_is_apart}
 
 -- a row's works on a file's range are valid
-owner_good : (file off : ℕ) (run : Run) → file < FILES → off + run.len ≤ OFFSETS
+pub owner_good : (file off : ℕ) (run : Run) → file < FILES → off + run.len ≤ OFFSETS
     → IsInode (FIRST_INODE + file) × KeepsOffsets (FIRST_INODE + file) off run.len
 owner_good file off run small fits = ((omega arith, omega (arith, small)), (λ _. fits, λ e. absurd (omega (arith, e, small))))
 
@@ -68,19 +69,17 @@ swap_sides : (x y u v : ℕ) → x + y ≡ u → u + 0 ≡ x + y
 swap_sides x y u v e = omega (arith, e)
 
 -- a punch
-punch_begins : (held mine mine' : ℕ → ℕ → Bool) {C : Committed} {P P' : List Debt} {M : FileMaps} {Q Q' : ℕ → Bool} {lane : ℕ} (file : FileNo) (off len : ℕ) (staged : Bool)
+punch_begins : (held mine mine' : ℕ → ℕ → Bool) {C : Committed} {P P' : List Debt} {M : FileMaps} {Q Q' : ℕ → Bool} {lane : ℕ} (file : FileNo) (off len : ℕ) (staged : Bool) → LanesHold held mine P M Q
     → (it : FirstGives held mine C P M Q lane (Punch file off len) staged P' mine' Q')
     → Begins held mine C P M Q lane file off len (Some it.row.old) None false it.new (applied (Punch file off len)) P' mine' Q'
-punch_begins held mine mine' {C} {P} {P'} {M} {Q} {Q'} {lane} file off len staged it =
+punch_begins held mine mine' {C} {P} {P'} {M} {Q} {Q'} {lane} file off len staged lanes it =
     let old : Run = it.row.old in
     let piece = it.row.piece in
     record {
       row = subst (Rattle.xr_balance.proofs.PieceLemmas.IsRow file off (Some old) None false) (sym it.row.row) (row_of_punch file off old);
       range = it.fits;
       holds_file = it.holds_files;
-      idle = it.idle;
-      seat = it.seat;
-      after = it.after;
+      begins = it.begins;
       piece = piece;
       old_fits = omega (arith, piece.1, it.fits.within);
       put_fits = tt;
@@ -91,7 +90,7 @@ punch_begins held mine mine' {C} {P} {P'} {M} {Q} {Q'} {lane} file off len stage
           omega (arith, takes, ap (λ n. holds (applied (Punch file off n) maps) f o b) there.1, Rattle.xr_balance.proofs.PieceLemmas.zero_cond (eqb file.0 f));
       good = λ maps good. steps_leave_good_maps (Punch file off len) maps it.fits good;
       valid = subst (All (λ w. IsWork w)) (sym it.row.row) (punch_valid file off old piece.0 it.fits.file_there (omega (arith, piece.1, it.fits.within)));
-      uses = record { own = λ b. omega (arith, it.uses.own b, it.row.unused b); others = it.uses.others; staged = λ b. omega (arith, it.uses.staged b, it.row.unused b) };
+      uses = uses_staged held mine mine' lanes it.begins.seat it.uses (λ b one. absurd (omega (arith, one)));
       own = λ b some. absurd (omega (arith, some));
       raises = λ b some. absurd (omega (arith, some));
       unlike = λ o b some. absurd (omega (arith, some));
@@ -103,10 +102,10 @@ remap_changes : (file : FileNo) (off : ℕ) (old : Option Run) (new : Run) (maps
 remap_changes file off old new maps range good piece f o b = omega (arith, remap_puts maps file off new good range f o b, piece_layout maps file off new.len old piece f o b)
 
 share_begins : (held mine mine' : ℕ → ℕ → Bool) {C : Committed} {P P' : List Debt} {M : FileMaps} {Q Q' : ℕ → Bool} {lane : ℕ} (file : FileNo) (off len : ℕ) (at : Addr)
-    → ((o b : ℕ) → holds C.maps file.0 o b ≡ holds M file.0 o b)
+    → ((o b : ℕ) → holds C.maps file.0 o b ≡ holds M file.0 o b) → LanesHold held mine P M Q
     → (it : FirstGives held mine C P M Q lane (Remap file off len at) false P' mine' Q')
     → Begins held mine C P M Q lane file off len it.row.old (Some (record { start = at; len = len })) false it.new (applied (Remap file off len at)) P' mine' Q'
-share_begins held mine mine' {C} {P} {P'} {M} {Q} {Q'} {lane} file off len at agree it =
+share_begins held mine mine' {C} {P} {P'} {M} {Q} {Q'} {lane} file off len at agree lanes it =
     let run : Run = record { start = at; len = len } in
     let old : Option Run = it.row.old in
     let was = old_good C.maps file off len old it.row.piece it.fits.0.within in
@@ -114,9 +113,7 @@ share_begins held mine mine' {C} {P} {P'} {M} {Q} {Q'} {lane} file off len at ag
       row = subst (Rattle.xr_balance.proofs.PieceLemmas.IsRow file off old (Some run) false) (sym it.row.row) (row_of_share file off old run);
       range = it.fits.0;
       holds_file = it.holds_files;
-      idle = it.idle;
-      seat = it.seat;
-      after = it.after;
+      begins = it.begins;
       piece = it.row.piece;
       old_fits = old_fits old off was;
       put_fits = it.fits.0.within;
@@ -124,7 +121,7 @@ share_begins held mine mine' {C} {P} {P'} {M} {Q} {Q'} {lane} file off len at ag
       change = λ maps good there. remap_changes file off old run maps it.fits.0 good there;
       good = λ maps good. steps_leave_good_maps (Remap file off len at) maps it.fits good;
       valid = subst (All (λ w. IsWork w)) (sym it.row.row) (share_valid file off old run was it.fits.1 it.fits.0.file_there it.fits.0.within);
-      uses = record { own = λ b. omega (arith, it.uses.own b, it.row.unused b); others = it.uses.others; staged = λ b. omega (arith, it.uses.staged b, it.row.unused b) };
+      uses = uses_staged held mine mine' lanes it.begins.seat it.uses (λ b one. absurd (omega (arith, one)));
       own = λ b some. absurd (omega (arith, some));
       raises = λ b some. it.row.raises b (omega (arith, some, at_most_one (is_within at.0 len b)));
       unlike = λ o b some. sym (agree o b) ∙ other_there o b some;
@@ -148,10 +145,10 @@ share_begins held mine mine' {C} {P} {P'} {M} {Q} {Q'} {lane} file off len at ag
         not_there None b ne = refl
         not_there (Some a) b ne = ⊎_elim (λ (e : a.0 ≡ b). absurd (ne (ap (λ n. Some (address_of n)) e))) (λ no. ap one_if (ne_eqb a.0 b no)) (cases_eq a.0 b)
 
-fresh_begins : (held mine mine' : ℕ → ℕ → Bool) {C : Committed} {P P' : List Debt} {M : FileMaps} {Q Q' : ℕ → Bool} {lane : ℕ} (file : FileNo) (off len : ℕ) (at : Addr)
+fresh_begins : (held mine mine' : ℕ → ℕ → Bool) {C : Committed} {P P' : List Debt} {M : FileMaps} {Q Q' : ℕ → Bool} {lane : ℕ} (file : FileNo) (off len : ℕ) (at : Addr) → LanesHold held mine P M Q
     → (it : FirstGives held mine C P M Q lane (Remap file off len at) true P' mine' Q')
     → Begins held mine C P M Q lane file off len it.row.old (Some (record { start = at; len = len })) true it.new (applied (Remap file off len at)) P' mine' Q'
-fresh_begins held mine mine' {C} {P} {P'} {M} {Q} {Q'} {lane} file off len at it =
+fresh_begins held mine mine' {C} {P} {P'} {M} {Q} {Q'} {lane} file off len at lanes it =
     let run : Run = record { start = at; len = len } in
     let old : Option Run = it.row.old in
     let was = old_good C.maps file off len old it.row.piece it.fits.0.within in
@@ -159,9 +156,7 @@ fresh_begins held mine mine' {C} {P} {P'} {M} {Q} {Q'} {lane} file off len at it
       row = subst (Rattle.xr_balance.proofs.PieceLemmas.IsRow file off old (Some run) true) (sym it.row.row) (row_of_fresh file off old run);
       range = it.fits.0;
       holds_file = it.holds_files;
-      idle = it.idle;
-      seat = it.seat;
-      after = it.after;
+      begins = it.begins;
       piece = it.row.piece;
       old_fits = old_fits old off was;
       put_fits = it.fits.0.within;
@@ -169,7 +164,7 @@ fresh_begins held mine mine' {C} {P} {P'} {M} {Q} {Q'} {lane} file off len at it
       change = λ maps good there. remap_changes file off old run maps it.fits.0 good there;
       good = λ maps good. steps_leave_good_maps (Remap file off len at) maps it.fits good;
       valid = subst (All (λ w. IsWork w)) (sym it.row.row) (fresh_valid file off old run was it.fits.1 it.fits.0.file_there it.fits.0.within);
-      uses = record { own = λ b. omega (arith, it.uses.own b, it.row.uses b); others = it.uses.others; staged = λ b. omega (arith, it.uses.staged b, it.row.uses b) };
+      uses = uses_staged held mine mine' lanes it.begins.seat it.uses (λ b one. it.row.own b one);
       own = λ b some. it.row.own b (omega (arith, some, at_most_one (is_within at.0 len b)));
       raises = λ b some. absurd (omega (arith, some));
       unlike = λ o b some. absurd (omega (arith, some));
@@ -183,36 +178,34 @@ idle_agrees held mine {C} {P} {M} {Q} {lane} was lanes idle f is o b =
 
 pub first_keeps_all : FirstKeeps
 first_keeps_all held mine mine' C P P' M Q Q' lane (Punch file off len) staged was lanes it =
-    let all = whole held mine mine' (applied (Punch file off len)) was lanes (punch_begins held mine mine' file off len staged it) in
-    first_keeps C P P' M (applied (Punch file off len) M) (applied (Punch file off len) was.base) Q Q' lane it.new was all.0 all.2 (punch_begins held mine mine' file off len staged it).valid
+    let all = whole held mine mine' (applied (Punch file off len)) was lanes (punch_begins held mine mine' file off len staged lanes it) in
+    first_keeps C P P' M (applied (Punch file off len) M) (applied (Punch file off len) was.base) Q Q' lane it.new was all.0 all.2 (punch_begins held mine mine' file off len staged lanes it).valid
 first_keeps_all held mine mine' C P P' M Q Q' lane (Remap file off len at) true was lanes it =
-    let all = whole held mine mine' (applied (Remap file off len at)) was lanes (fresh_begins held mine mine' file off len at it) in
-    first_keeps C P P' M (applied (Remap file off len at) M) (applied (Remap file off len at) was.base) Q Q' lane it.new was all.0 all.2 (fresh_begins held mine mine' file off len at it).valid
+    let all = whole held mine mine' (applied (Remap file off len at)) was lanes (fresh_begins held mine mine' file off len at lanes it) in
+    first_keeps C P P' M (applied (Remap file off len at) M) (applied (Remap file off len at) was.base) Q Q' lane it.new was all.0 all.2 (fresh_begins held mine mine' file off len at lanes it).valid
 first_keeps_all held mine mine' C P P' M Q Q' lane (Remap file off len at) false was lanes it =
-    let all = whole held mine mine' (applied (Remap file off len at)) was lanes (share_begins held mine mine' file off len at (idle_agrees held mine was lanes it.idle file.0 it.holds_files) it) in
+    let all = whole held mine mine' (applied (Remap file off len at)) was lanes (share_begins held mine mine' file off len at (idle_agrees held mine was lanes it.begins.idle file.0 it.holds_files) lanes it) in
     first_keeps C P P' M (applied (Remap file off len at) M) (applied (Remap file off len at) was.base) Q Q' lane it.new was all.0 all.2
-    (share_begins held mine mine' file off len at (idle_agrees held mine was lanes it.idle file.0 it.holds_files) it).valid
+    (share_begins held mine mine' file off len at (idle_agrees held mine was lanes it.begins.idle file.0 it.holds_files) lanes it).valid
 first_keeps_all held mine mine' C P P' M Q Q' lane (Exchange file off other other_off len) staged was lanes it =
     let all = swap_whole held mine mine' file off other other_off len staged was lanes it in
     subst (λ (S : ℕ → Bool). IsSettled C P' (applied (Exchange file off other other_off len) M) S) (λ i b. same_staged b i)
     (exchange_keeps C P P' M (applied (Exchange file off other other_off len) M) Q lane off other_off len file other was all.0)
   where
-    same_bool : (s t : Bool) → one_if s ≡ one_if t → s ≡ t
-    same_bool true true h = refl
-    same_bool true false h = absurd (omega (arith, h))
-    same_bool false true h = absurd (omega (arith, h))
-    same_bool false false h = refl
+    not_used : (s : Bool) → (s && true) ≡ s
+    not_used true = refl
+    not_used false = refl
 
     same_staged : (b : ℕ) → Q b ≡ Q' b
-    same_staged b = same_bool (Q b) (Q' b) (omega (arith, it.uses.staged b, it.row.unused b))
+    same_staged b = sym (it.uses.staged b ∙ not_used (Q b))
 
 pub first_holds_all : FirstHolds
 first_holds_all held mine mine' C P P' M Q Q' lane (Punch file off len) staged was lanes it =
-    step_holds held mine mine' P P' M (applied (Punch file off len) M) Q Q' lane it.new lanes (whole held mine mine' (applied (Punch file off len)) was lanes (punch_begins held mine mine' file off len staged it)).1
+    step_holds held mine mine' P P' M (applied (Punch file off len) M) Q Q' lane it.new lanes (whole held mine mine' (applied (Punch file off len)) was lanes (punch_begins held mine mine' file off len staged lanes it)).1
 first_holds_all held mine mine' C P P' M Q Q' lane (Remap file off len at) true was lanes it =
-    step_holds held mine mine' P P' M (applied (Remap file off len at) M) Q Q' lane it.new lanes (whole held mine mine' (applied (Remap file off len at)) was lanes (fresh_begins held mine mine' file off len at it)).1
+    step_holds held mine mine' P P' M (applied (Remap file off len at) M) Q Q' lane it.new lanes (whole held mine mine' (applied (Remap file off len at)) was lanes (fresh_begins held mine mine' file off len at lanes it)).1
 first_holds_all held mine mine' C P P' M Q Q' lane (Remap file off len at) false was lanes it =
     step_holds held mine mine' P P' M (applied (Remap file off len at) M) Q Q' lane it.new lanes
-    (whole held mine mine' (applied (Remap file off len at)) was lanes (share_begins held mine mine' file off len at (idle_agrees held mine was lanes it.idle file.0 it.holds_files) it)).1
+    (whole held mine mine' (applied (Remap file off len at)) was lanes (share_begins held mine mine' file off len at (idle_agrees held mine was lanes it.begins.idle file.0 it.holds_files) lanes it)).1
 first_holds_all held mine mine' C P P' M Q Q' lane (Exchange file off other other_off len) staged was lanes it =
     step_holds held mine mine' P P' M (applied (Exchange file off other other_off len) M) Q Q' lane (works_of_exchange file off other other_off len) lanes (swap_whole held mine mine' file off other other_off len staged was lanes it).1

@@ -12,10 +12,13 @@ use Rattle.xr_maps.specs.Holdings.{in_run}
 use Rattle.xr_balance.specs.RollGives.{RollsLower, RollsPlain, works_of_rest}
 use Rattle.xr_balance.specs.RollLaws.{RollKeeps}
 use Rattle.xr_balance.specs.Rolls.{Rolls, run_back, run_front, in_lane, works_of_freed}
-use Rattle.xr_balance.specs.Settled.{Committed, IsDataOf, IsSettled}
+use Rattle.xr_balance.specs.Settled.{Committed, IsDataOf, IsSettled, bringing, taking}
 use Rattle.xr_balance.specs.Works.{Debt, naming}
 use Rattle.xr_balance.proofs.TotalLemmas.{work-le-total}
 use Rattle.xr_balance.proofs.ExchangeRollLemmas.{exchange_roll_keeps}
+use Rattle.xr_balance.proofs.PieceRolls.{all_same, none_rolls, takes_rolls}
+use Rattle.xr_balance.specs.Pieces.{GivesPiece}
+use Rattle.xr_base.specs.declared.address.FileNo.{FileNo}
 use Rattle.xr_base.specs.declared.address.Run.{Run}
 use Rattle.xr_base.specs.Address.{IsData, address_of}
 use Rattle.std.proofs.Common.{subst, sym, ap}
@@ -37,9 +40,9 @@ abbrev AreValid : List Debt → Type 0
 AreValid P = All (λ d. IsWork d.work) P
 
 good_work : (kind : CountKind) {P P' : List Debt} {i lane : ℕ} {run : Run} {new : List Work} → AreValid P → Rolls P i lane (Count kind run) new P' → IsGoodRun run
-good_work kind {P} {P'} {i} {lane} {run} valid rolls = subst (λ (d : Debt). IsWork d.work) (rolls.is_work (in_lane lane (Count kind run))) (valid i (in_lane lane (Count kind run)) rolls.inside)
+good_work kind {P} {P'} {i} {lane} {run} valid rolls = subst (λ (d : Debt). IsWork d.work) (rolls.first.is_work (in_lane lane (Count kind run))) (valid i (in_lane lane (Count kind run)) rolls.first.inside)
 
-good_front : (run : Run) (n : ℕ) → IsGoodRun run → 0 < n → n ≤ run.len → IsGoodRun (run_front run n)
+pub good_front : (run : Run) (n : ℕ) → IsGoodRun run → 0 < n → n ≤ run.len → IsGoodRun (run_front run n)
 good_front run n good some fits = record {
   some = some;
   data_blocks = λ k l. good.data_blocks k (omega (arith, l, fits));
@@ -118,6 +121,16 @@ plain_keeps C C' {P} {P'} {M} {Q} {i} {lane} {w} {new} plain still was rolls giv
     let rolls' : Rolls P i lane w [] P' = subst (λ l. Rolls P i lane w l P') gives.new_is rolls in
     plain_roll_keeps was rolls plain still gives (plain_valid was.valid rolls') (parted_plain was.parted rolls')
 
+-- an exchange passes over its front, and takes a piece
+swap_keeps : {C : Committed} {P P' : List Debt} {M : FileMaps} {Q : ℕ → Bool} {i lane : ℕ} {file : FileNo} {off : ℕ} {other : FileNo} {other_off len : ℕ} {new : List Work}
+    → IsSettled C P M Q → Rolls P i lane (Swap file off other other_off len) new P' → GivesPiece C.maps file off other other_off len new → IsSettled C P' M Q
+swap_keeps {C} {P} {P'} {M} {Q} {i} {lane} {file} {off} {other} {other_off} {len} {new} was rolls it =
+    let w : Work = Swap file off other other_off len in ⊎_elim
+    (λ none. let rolls' = subst (λ l. Rolls P i lane w l P') none.1 rolls in
+    exchange_roll_keeps C P P' M was.base Q i lane w [] was rolls' (none_rolls was (λ f o b. ap (λ n. taking was.base f o b (Swap file off other other_off n)) (sym none.0) ∙ all_same was rolls.first it.within it.same f o b ∙ ap (λ n. bringing was.base f o b (Swap file off other other_off n)) none.0)))
+    (λ takes. exchange_roll_keeps C P P' M _ Q i lane w new was rolls (takes_rolls it.over was rolls.first it.within it.same takes))
+    it.gives
+
 pub roll_keeps_all : RollKeeps
 roll_keeps_all C C' P P' M Q i lane (Map Mapping.Map file off run) new was rolls gives =
     plain_keeps C C' (record { at = λ f o. refl; takes = λ B f o b. refl; brings = λ B f o b. refl }) (record { gives = λ b. refl; raises = λ b. refl; lowers = λ b. refl }) was rolls gives
@@ -137,4 +150,4 @@ roll_keeps_all C C' P P' M Q i lane (Count Decrease run) new was rolls gives = l
 roll_keeps_all C C' P P' M Q i lane (Free run) new was rolls gives =
     let rolls' = subst (λ l. Rolls P i lane (Free run) l P') gives.new_is rolls in
     subst (λ D. IsSettled D P' M Q) (sym (rebuilt C C' C.counted (λ b. C.is_free b || is_within run.start.0 run.len b) gives.keeps gives.counted gives.free)) (free_roll_keeps was rolls' (plain_valid was.valid rolls') (parted_plain was.parted rolls'))
-roll_keeps_all C C' P P' M Q i lane (Swap file off other other_off len) new was rolls gives = subst (λ D. IsSettled D P' M Q) (sym (rebuilt C C' C.counted C.is_free gives.keeps gives.counted gives.free)) (exchange_roll_keeps C P P' M gives.base Q i lane (Swap file off other other_off len) new was rolls gives.exchange)
+roll_keeps_all C C' P P' M Q i lane (Swap file off other other_off len) new was rolls gives = subst (λ D. IsSettled D P' M Q) (sym (rebuilt C C' C.counted C.is_free gives.keeps gives.counted gives.free)) (swap_keeps was rolls gives.piece)

@@ -6,7 +6,7 @@ use Rattle.std.proofs.lemmas.List.Sums.{sum_by-cons}
 use Rattle.xr_base.specs.declared.address.Addr.{Addr}
 use Rattle.xr_base.specs.declared.address.Run.{Run}
 use Rattle.xr_base.specs.declared.geometry.TheConstants.{FIRST_INODE}
-use Rattle.xr_base.specs.Address.{address_of}
+use Rattle.xr_base.specs.Address.{address_of, group_number}
 use Rattle.xr_maps.specs.FileMaps.{address_at}
 use Rattle.xr_maps.specs.Records.{maps_to}
 use Rattle.xr_maps.specs.Holdings.{in_layout, in_run, one_if}
@@ -17,15 +17,17 @@ use Rattle.xr_items.specs.declared.work.CountKind.TheVariants.{Increase, Decreas
 use Rattle.xr_items.specs.declared.work.MapKind.TheVariants as Mapping
 use Rattle.xr_items.specs.Valid.{IsWork}
 use Rattle.xr_balance.specs.Chains.{giving, other_than_giving}
-use Rattle.xr_balance.specs.Ready.{FirstIsReady, IsReady, LeastIsFirst}
+use Rattle.xr_balance.specs.Ready.{FirstIsReady, HasRoom, IsReady, LeastIsFirst, most_records}
 use Rattle.xr_balance.specs.Rolls.{in_lane}
 use Rattle.xr_balance.specs.Rows.{ChainsAreShort}
 use Rattle.xr_balance.specs.Settled.{Committed}
-use Rattle.xr_balance.specs.Works.{Debt, in_offsets}
+use Rattle.xr_balance.specs.Works.{Debt, in_offsets, naming}
 use Rattle.xr_balance.proofs.FindsWords.{Finds}
 use Rattle.xr_balance.proofs.FirstCommits.{not_true}
 use Rattle.xr_balance.proofs.LastLowering.{inside_one}
-use Rattle.xr_balance.proofs.ReadyLemmas.{first_finds}
+use Rattle.xr_balance.proofs.PairCounts.{few_pairs}
+use Rattle.xr_balance.proofs.ReadyLemmas.{first_finds, rolls_of}
+use Rattle.xr_balance.proofs.TotalLemmas.{work-le-total}
 
 -- the place k of a run and of its layout
 place_in : (run : Run) (k : ℕ) → k < run.len → in_run (run.start.0 + k) run ≡ 1
@@ -76,14 +78,26 @@ ready_by_kind C (Count FreeCow run) valid it = λ k l. is_so (C.is_staged (run.s
 ready_by_kind C (Free run) valid it = λ k l. it.unfree (run.start.0 + k) (omega (arith, place_in run k l))
 ready_by_kind C (Swap file off other other_off len) valid it = tt
 
+-- a good run's group is there where its blocks' groups are
+has_room : (C : Committed) (records : ℕ → ℕ) (w : Work) → IsWork w → ((b : ℕ) → 0 < naming b w → group_number (address_of b) < C.groups)
+    → ((group : ℕ) → group < C.groups → records group ≤ most_records) → HasRoom records w
+has_room C records (Own kind owner off run) valid named few =
+    let start : in_run run.start.0 run ≡ 1 = inside_one run.start.0 run.len run.start.0 (omega arith) (omega (arith, valid.0.some)) in
+    few (group_number run.start) (named run.start.0 (omega (arith, start)))
+has_room C records (Free run) valid named few = tt
+has_room C records (Count kind run) valid named few = tt
+has_room C records (Map kind file off run) valid named few = tt
+has_room C records (Swap file off other other_off len) valid named few = tt
+
 pub first_is_ready : FirstIsReady
-first_is_ready C P M Q i lane w was it =
+first_is_ready C P M Q i lane w records few was it =
     let valid : IsWork w = subst (λ (d : Debt). IsWork d.work) (it.is_work (in_lane lane w)) (was.valid i (in_lane lane w) it.inside) in
     let finds = first_finds C P M Q i lane w was it in
-    (ready_by_kind C w valid finds, finds.unfree)
+    let named : (b : ℕ) → 0 < naming b w → group_number (address_of b) < C.groups = λ b some. was.blocks.named_groups b (omega (arith, some, work-le-total (naming b) (rolls_of it))) in
+    ((ready_by_kind C w valid finds, has_room C records w valid named (λ group there. omega (arith, few group there, few_pairs C P M Q group was))), finds.unfree)
 
 pub least_is_first : LeastIsFirst
-least_is_first P d = record { inside = omega arith; is_work = λ e. refl; first = λ k e l. absurd (omega (arith, l)) }
+least_is_first P d = record { inside = omega arith; is_work = λ e. refl; none_before = λ k e l. absurd (omega (arith, l)) }
 
 pub chains_are_short : ChainsAreShort
 chains_are_short works chain = omega (arith, count works, chain.short, chain.given_once)

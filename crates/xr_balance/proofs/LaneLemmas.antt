@@ -20,13 +20,14 @@ use Rattle.xr_balance.proofs.TotalLemmas.{sum_by-in_lane}
 use Rattle.xr_balance.proofs.AloneLemmas.{total-works}
 use Rattle.std.specs.Prelude.{IsTrue}
 use Rattle.xr_base.specs.declared.geometry.TheConstants.{FILES}
-use Rattle.xr_balance.proofs.SumLemmas.{total-same, term-le}
+use Rattle.xr_balance.proofs.SumLemmas.{lane-term, total-same, term-le}
 use Rattle.xr_balance.proofs.CountSlots.{sum_below-none, sum_below-balance}
 use Rattle.xr_balance.proofs.ReadyLemmas.{total-by-lanes}
 use Rattle.xr_balance.proofs.FirstCommits.{is_one, is_true, at_most_one}
 use Rattle.xr_balance.proofs.ChainLemmas.{chain-rolls, chain-rolls-other}
 use Rattle.xr_balance.proofs.LastLowering.{none_left, rest_of_run}
 use Rattle.xr_balance.proofs.CountRolls.{rest-sum, rest-none}
+use Rattle.xr_balance.proofs.PieceRows.{given_files, uncounted}
 
 -- the new works raise no more, unstage no more and name no other file than the work did
 record Lessens (w : Work) (new : List Work) : Type 0 where
@@ -39,27 +40,27 @@ record Lessens (w : Work) (new : List Work) : Type 0 where
 none_lessens : (w : Work) (new : List Work) → new ≡ [] → Lessens w new
 none_lessens w new is = record { raises = λ b. omega (arith, ap (sum_by (raised b)) is); unstages = λ b. omega (arith, ap (sum_by (unstaging b)) is); files = λ f some. absurd (omega (arith, some, ap (sum_by (naming_file f)) is)); stages = λ b. omega (arith, ap (sum_by (staging b)) is); stage_pairs = λ b. omega (arith, ap (sum_by (staging_pair b)) is) }
 
-lessens : (C C' : Committed) (P : List Debt) (M B : FileMaps) (i : ℕ) (w : Work) (new : List Work) → RollGives C P M B i w C' new → Lessens w new
-lessens C C' P M B i (Map kind file off run) new gives = none_lessens _ new gives.new_is
-lessens C C' P M B i (Own kind owner off run) new gives = none_lessens _ new gives.new_is
-lessens C C' P M B i (Count AllocCow run) new gives = none_lessens _ new gives.new_is
-lessens C C' P M B i (Count FreeCow run) new gives = none_lessens _ new gives.new_is
-lessens C C' P M B i (Free run) new gives = none_lessens _ new gives.new_is
-lessens C C' P M B i (Swap file off other other_off len) new gives = let it = gives.exchange in record {
-  raises = λ b. omega (arith, it.row.uncounted b);
-  unstages = λ b. omega (arith, it.row.unstaged b);
-  files = λ f some. it.files_within f some;
-  stages = λ b. omega (arith, it.row.unstaged b);
-  stage_pairs = λ b. omega (arith, it.row.unstaged b);
+lessens : (C C' : Committed) (w : Work) (new : List Work) → RollGives C w C' new → Lessens w new
+lessens C C' (Map kind file off run) new gives = none_lessens _ new gives.new_is
+lessens C C' (Own kind owner off run) new gives = none_lessens _ new gives.new_is
+lessens C C' (Count AllocCow run) new gives = none_lessens _ new gives.new_is
+lessens C C' (Count FreeCow run) new gives = none_lessens _ new gives.new_is
+lessens C C' (Free run) new gives = none_lessens _ new gives.new_is
+lessens C C' (Swap file off other other_off len) new gives = let it = uncounted gives.piece in record {
+  raises = λ b. omega (arith, it.raises b);
+  unstages = λ b. omega (arith, it.unstages b);
+  files = λ f some. given_files f gives.piece some;
+  stages = λ b. omega (arith, it.stages b);
+  stage_pairs = λ b. omega (arith, it.stage_pairs b);
 }
-lessens C C' P M B i (Count Increase run) new gives = record {
+lessens C C' (Count Increase run) new gives = record {
   raises = λ b. omega (arith, ap (sum_by (raised b)) gives.new_is, rest-sum (raised b) Increase run gives.len, rest_of_run b run gives.len gives.part.fits);
   unstages = λ b. omega (arith, ap (sum_by (unstaging b)) gives.new_is, rest-none (unstaging b) Increase run gives.len refl);
   files = λ f some. absurd (omega (arith, some, ap (sum_by (naming_file f)) gives.new_is, rest-none (naming_file f) Increase run gives.len refl));
   stages = λ b. omega (arith, ap (sum_by (staging b)) gives.new_is, rest-none (staging b) Increase run gives.len refl);
   stage_pairs = λ b. omega (arith, ap (sum_by (staging_pair b)) gives.new_is, rest-none (staging_pair b) Increase run gives.len refl);
 }
-lessens C C' P M B i (Count Decrease run) new gives = ⊎_elim
+lessens C C' (Count Decrease run) new gives = ⊎_elim
     (λ one. let is : new ≡ works_of_freed run gives.len = gives.new_is ∙ rw one refl in record {
       raises = λ b. omega (arith, ap (sum_by (raised b)) is, none_left (raised b) run gives.len refl refl);
       unstages = λ b. omega (arith, ap (sum_by (unstaging b)) is, none_left (unstaging b) run gives.len refl refl);
@@ -101,8 +102,8 @@ lane-some g {P} {P'} {i} {lane} {w} {new} rolls less l some = ⊎_elim
     (cases_eq lane l)
 
 pub roll_holds : RollHolds
-roll_holds held mine C C' P P' M Q i lane w new B was rolls gives =
-    let less = lessens C C' P M B i w new gives in
+roll_holds held mine C C' P P' M Q i lane w new was rolls gives =
+    let less = lessens C C' w new gives in
     record {
       apart = was.apart;
       staged_for = was.staged_for;
@@ -138,7 +139,7 @@ maps_are_determined C P R M N Q S works one two =
     let same : (f o b : ℕ) → holds one.base f o b ≡ holds two.base f o b = λ f o b. omega (arith, one.maps.base f o b, two.maps.base f o b, turn (mapping f o b), turn (unmapping f o b)) in
     let takes : (f o b : ℕ) → total (taking one.base f o b) P ≡ total (taking two.base f o b) P = λ f o b. total-same (taking one.base f o b) (taking two.base f o b) P (λ k d l. taking_same one.base two.base same f o b (get_or P k d).work) in
     let brings : (f o b : ℕ) → total (bringing one.base f o b) P ≡ total (bringing two.base f o b) P = λ f o b. total-same (bringing one.base f o b) (bringing two.base f o b) P (λ k d l. bringing_same one.base two.base same f o b (get_or P k d).work) in (
-      maps_are_one M N one.good two.good (λ f o b. omega (arith, one.maps.exchanged f o b, two.maps.exchanged f o b, same f o b, takes f o b, brings f o b, turn (taking two.base f o b), turn (bringing two.base f o b))),
+      maps_are_one M N one.good_maps two.good_maps (λ f o b. omega (arith, one.maps.exchanged f o b, two.maps.exchanged f o b, same f o b, takes f o b, brings f o b, turn (taking two.base f o b), turn (bringing two.base f o b))),
       λ b. same_bool (Q b) (S b) (omega (arith, one.staging.staged b, two.staging.staged b, turn (staging b), turn (unstaging b))),
     )
 
@@ -167,11 +168,6 @@ two-terms n j k f jl kl ne =
     let one : f k ≤ sum_below n g = let it : g k ≡ f k = rw (ne_eqb k j (λ e. ne (sym e))) refl in omega (arith, it, term-le n k g kl) in
     let two : f j ≤ sum_below n h = let it : h j ≡ f j = rw (eq-eqb j j refl) refl in omega (arith, it, term-le n j h jl) in
     omega (arith, all, one, two, sum_below-none n (λ _. 0) (λ _ _. refl))
-
-lane-term : (lane : ℕ) (f : ℕ → ℕ) → IsLane lane → f lane ≤ sum_of_lanes f
-lane-term lane f seat =
-    let same : suc (lane - 1) ≡ lane = omega (arith, seat.0) in
-    omega (arith, ap f same, term-le 8 (lane - 1) (λ k. f (suc k)) (omega (arith, seat.0, seat.1)))
 
 two-lanes : (l k : ℕ) (f : ℕ → ℕ) → IsLane l → IsLane k → l ≢ k → f l + f k ≤ sum_of_lanes f
 two-lanes l k f ll kl ne =

@@ -35,7 +35,7 @@ in_parts off n len o fits = ⊎_elim
     (cases_lt o off)
 
 -- what the works that are left name
-sum-left : (f : Work → ℕ) (run : Run) (n : ℕ) → sum_by f (works_of_freed run n) ≡ f (Free (run_front run n)) + cond (eqb n run.len) 0 (f (Count Decrease (run_back run n)))
+pub sum-left : (f : Work → ℕ) (run : Run) (n : ℕ) → sum_by f (works_of_freed run n) ≡ f (Free (run_front run n)) + cond (eqb n run.len) 0 (f (Count Decrease (run_back run n)))
 sum-left f run n = ⊎_elim
     (λ e. rw (eq-eqb n run.len e) (sum_by-cons f (Free (run_front run n)) []))
     (λ ne. rw (ne_eqb n run.len ne) (sum_by-cons f (Free (run_front run n)) (Count Decrease (run_back run n) ∷ []) ∙ ap (λ k. f (Free (run_front run n)) + k) (sum_by-cons f (Count Decrease (run_back run n)) [] ∙ omega arith)))

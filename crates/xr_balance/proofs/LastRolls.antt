@@ -99,15 +99,15 @@ pub unnamed_others : {P P' : List Debt} {i lane : ℕ} {run : Run} (b : ℕ) →
 unnamed_others {P} {P'} {i} {lane} {run} b parted rolls it =
     let w : Debt = in_lane lane (Free run) in
     let rest : total (naming b) (remove P i) ≡ 0 = sum_none (λ d. naming b d.work) (remove P i) (λ k d inside.
-    let len = length-remove P i rolls.inside in
+    let len = length-remove P i rolls.first.inside in
     ⊎_elim
-    (λ below. rw (get_or-remove_below P i d k below rolls.inside) (⊎_elim
-    (λ named. absurd (rolls.first k d below
-    ((parted.agree k i d below rolls.inside).before b named (rw (rolls.is_work d) (omega (arith, it))) ∙ ap (λ (e : Debt). e.lane) (rolls.is_work d))))
+    (λ below. rw (get_or-remove_below P i d k below rolls.first.inside) (⊎_elim
+    (λ named. absurd (rolls.first.none_before k d below
+    ((parted.agree k i d below rolls.first.inside).before b named (rw (rolls.first.is_work d) (omega (arith, it))) ∙ ap (λ (e : Debt). e.lane) (rolls.first.is_work d))))
     (λ none. omega (arith, none))
     (cases_lt 0 (naming b (get_or P k d).work))))
-    (λ above. rw (get_or-remove_above P i d k above rolls.inside)
-    ((parted.agree i (k + 1) d (omega (arith, above)) (omega (arith, inside, len))).after b (rw (rolls.is_work d) (omega (arith, it)))))
+    (λ above. rw (get_or-remove_above P i d k above rolls.first.inside)
+    ((parted.agree i (k + 1) d (omega (arith, above)) (omega (arith, inside, len))).after b (rw (rolls.first.is_work d) (omega (arith, it)))))
     (cases_lt k i)) in
     ap (total (naming b)) (rolls.after ∙ append-nil (remove P i)) ∙ rest
 

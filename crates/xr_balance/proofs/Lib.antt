@@ -3,11 +3,14 @@ pub mod AloneLemmas
 pub mod ChainLemmas
 pub mod CountRolls
 pub mod CountSlots
+pub mod ExchangeBalances
+pub mod ExchangePremises
 pub mod ExchangeRollLemmas
 pub mod FindsWords
 pub mod FirstCommits
 pub mod FirstLemmas
 pub mod FreshLemmas
+pub mod GivenBackLemmas
 pub mod KeptRolls
 pub mod KindLemmas
 pub mod LaneLemmas
@@ -18,7 +21,12 @@ pub mod PairCounts
 pub mod PartedKinds
 pub mod PartedLemmas
 pub mod PartedRolls
+pub mod PendingLemmas
 pub mod PieceLemmas
+pub mod PieceOnce
+pub mod PieceRolls
+pub mod PieceRows
+pub mod PieceThere
 pub mod QuietLemmas
 pub mod ReadyLemmas
 pub mod RollLemmas
@@ -30,4 +38,5 @@ pub mod SumLemmas
 pub mod SwapFirsts
 pub mod TotalLemmas
 pub mod WaitingLemmas
+pub mod WeightLemmas
 pub mod WholeFirsts

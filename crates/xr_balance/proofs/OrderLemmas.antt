@@ -3,7 +3,7 @@ use Rattle.std.proofs.Common.{◌≡◌, ℕ, ◌+◌, ◌<◌, List, [], ◌∷
 use Rattle.std.specs.Prelude.{sum_by}
 use Rattle.std.proofs.lemmas.List.Sums.{sum_by-cons, sum_by-append}
 use Rattle.xr_items.specs.declared.work.Work.{Work}
-use Rattle.xr_balance.specs.Chains.{AreInOrder, GoesBefore, IsChain, answering, counting, exchanging, giving, lowering, other_than_giving, raising}
+use Rattle.xr_balance.specs.Chains.{AreInOrder, GoesBefore, IsChain, answering, recounting, exchanging, giving, lowering, other_than_giving, raising}
 use Rattle.xr_balance.specs.Works.{freed, mapping_at, naming_file, unmapping_at, unstaging}
 
 -- works and those that come behind them, as one order
@@ -60,5 +60,5 @@ chain-tail w works chain =
       one = chain.one;
       two = chain.two;
       files = λ f it. chain.files f (omega (arith, it, first (naming_file f)));
-      apart = λ it. omega (arith, first counting, chain.apart (omega (arith, it, first exchanging)));
+      apart = λ it. omega (arith, first recounting, chain.apart (omega (arith, it, first exchanging)));
     }

@@ -11,7 +11,7 @@ use Rattle.xr_items.specs.declared.work.Work.TheVariants.{Free, Count}
 use Rattle.xr_items.specs.declared.work.CountKind.{CountKind}
 use Rattle.xr_items.specs.declared.work.CountKind.TheVariants.{Increase, Decrease}
 use Rattle.xr_maps.specs.Holdings.{in_run, one_if}
-use Rattle.xr_balance.specs.Chains.{AreInOrder, GoesBefore, IsChain, counting, exchanging, giving, lowering, other_than_giving, raising}
+use Rattle.xr_balance.specs.Chains.{AreInOrder, GoesBefore, IsChain, recounting, exchanging, giving, lowering, other_than_giving, raising}
 use Rattle.xr_balance.specs.RollGives.{works_of_rest}
 use Rattle.xr_balance.specs.Rolls.{Rolls, run_back, run_front, in_lane}
 use Rattle.xr_balance.specs.Settled.{Agree, Committed, IsDataOf, IsPartedByLane, IsSettled}
@@ -70,7 +70,7 @@ count_agrees {C} {P} {P'} {M} {Q} {i} {lane} {w} {new} kind part was rolls withi
       (λ it. let e : Debt = in_lane lane w in
       let named = within b it in
       let there = counted_there b was named.0 (omega (arith, named.1, work-le-total (raised b) rolls, work-le-total (lowered b) rolls)) in
-      absurd (omega (arith, given, there.1, get_or-le-sum_by (λ (x : Debt). freed b x.work) (remove P i) k d inside, sum_by-remove (λ (x : Debt). freed b x.work) P i e rolls.inside)))
+      absurd (omega (arith, given, there.1, get_or-le-sum_by (λ (x : Debt). freed b x.work) (remove P i) k d inside, sum_by-remove (λ (x : Debt). freed b x.work) P i e rolls.first.inside)))
       (zero_or_one (is_within part.start.0 part.len b));
 }
 
@@ -100,7 +100,7 @@ raise_chain run part works chain =
       order = order-append works (v ∷ []) (order-tail w works chain.order) (order-cons v [] (count_head Increase part) order-none) (record {
         unmapped = λ f o it. refl;
         lowered_last = λ it. refl;
-        exchanged_last = λ it. absurd (omega (arith, it, first exchanging, first counting, chain.apart (omega (arith, it, first exchanging))));
+        exchanged_last = λ it. absurd (omega (arith, it, first exchanging, first recounting, chain.apart (omega (arith, it, first exchanging))));
       });
       short = omega (arith, chain.short, first other_than_giving, more other_than_giving);
       given_once = omega (arith, chain.given_once, first giving, more giving);
@@ -108,7 +108,7 @@ raise_chain run part works chain =
       one = chain.one;
       two = chain.two;
       files = λ f it. chain.files f (omega (arith, it, more (naming_file f), first (naming_file f)));
-      apart = λ it. absurd (omega (arith, it, more exchanging, first exchanging, first counting, chain.apart (omega (arith, it, more exchanging, first exchanging))));
+      apart = λ it. absurd (omega (arith, it, more exchanging, first exchanging, first recounting, chain.apart (omega (arith, it, more exchanging, first exchanging))));
     }
 
 pub parted_raise : {C : Committed} {P P' : List Debt} {M : FileMaps} {Q : ℕ → Bool} {i lane n : ℕ} {run : Run}
@@ -138,7 +138,7 @@ lower_chain run part works chain =
       order = order-append works (v ∷ []) (order-tail w works chain.order) (order-cons v [] (count_head Decrease part) order-none) (record {
         unmapped = λ f o it. refl;
         lowered_last = λ it. absurd (omega (arith, it, last));
-        exchanged_last = λ it. absurd (omega (arith, it, first exchanging, first counting, chain.apart (omega (arith, it, first exchanging))));
+        exchanged_last = λ it. absurd (omega (arith, it, first exchanging, first recounting, chain.apart (omega (arith, it, first exchanging))));
       });
       short = omega (arith, chain.short, first other_than_giving, more other_than_giving);
       given_once = omega (arith, last, more giving);
@@ -146,7 +146,7 @@ lower_chain run part works chain =
       one = chain.one;
       two = chain.two;
       files = λ f it. chain.files f (omega (arith, it, more (naming_file f), first (naming_file f)));
-      apart = λ it. absurd (omega (arith, it, more exchanging, first exchanging, first counting, chain.apart (omega (arith, it, more exchanging, first exchanging))));
+      apart = λ it. absurd (omega (arith, it, more exchanging, first exchanging, first recounting, chain.apart (omega (arith, it, more exchanging, first exchanging))));
     }
 
 gift_head : (run : Run) (after : List Work) → GoesBefore (Free run) after
@@ -172,7 +172,7 @@ give_chain run gift works rest order few none plain unmaps raises names chain =
       order = order-append works new (order-tail w works chain.order) (order-cons (Free gift) rest (gift_head gift rest) order) (record {
         unmapped = λ f o it. omega (arith, sum_by-cons (unmapping_at f o) (Free gift) rest, unmaps f o);
         lowered_last = λ it. absurd (omega (arith, it, last));
-        exchanged_last = λ it. absurd (omega (arith, it, first exchanging, first counting, chain.apart (omega (arith, it, first exchanging))));
+        exchanged_last = λ it. absurd (omega (arith, it, first exchanging, first recounting, chain.apart (omega (arith, it, first exchanging))));
       });
       short = omega (arith, chain.short, first other_than_giving, more other_than_giving, few);
       given_once = omega (arith, last, more giving, none);
@@ -180,7 +180,7 @@ give_chain run gift works rest order few none plain unmaps raises names chain =
       one = chain.one;
       two = chain.two;
       files = λ f it. chain.files f (omega (arith, it, more (naming_file f), first (naming_file f), names f));
-      apart = λ it. absurd (omega (arith, it, more exchanging, first exchanging, first counting, plain, chain.apart (omega (arith, it, more exchanging, first exchanging, plain))));
+      apart = λ it. absurd (omega (arith, it, more exchanging, first exchanging, first recounting, plain, chain.apart (omega (arith, it, more exchanging, first exchanging, plain))));
     }
 
 pub parted_lower : {C : Committed} {P P' : List Debt} {M : FileMaps} {Q : ℕ → Bool} {i lane n : ℕ} {run : Run}
@@ -209,7 +209,7 @@ gift_agrees {C} {P} {P'} {M} {Q} {i} {lane} {n} {run} was lowers k d inside = re
   after = λ b given. ⊎_elim
       (λ z. z)
       (λ it. let e : Debt = in_lane lane (Count Decrease run) in
-      absurd (omega (arith, given, (last_at b was lowers it).not_given, get_or-le-sum_by (λ (x : Debt). freed b x.work) (remove P i) k d inside, sum_by-remove (λ (x : Debt). freed b x.work) P i e lowers.rolls.inside)))
+      absurd (omega (arith, given, (last_at b was lowers it).not_given, get_or-le-sum_by (λ (x : Debt). freed b x.work) (remove P i) k d inside, sum_by-remove (λ (x : Debt). freed b x.work) P i e lowers.rolls.first.inside)))
       (zero_or_one (is_within run.start.0 n b));
 }
 

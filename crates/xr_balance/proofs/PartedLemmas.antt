@@ -36,7 +36,7 @@ all_pairs_append xs ys left right cross i j d less inside =
 pub roll_parted : {P P' : List Debt} {i lane : ℕ} {w : Work} {new : List Work} → IsPartedByLane P → Rolls P i lane w new P' → NewAgree (remove P i) lane new
     → All (λ d. IsLane d.lane) P' → ((l : ℕ) → IsChain (map (λ d. d.work) (chain_of P' l))) → IsPartedByLane P'
 roll_parted {P} {P'} {i} {lane} {w} {new} was rolls agree lanes chains =
-    let rest : AllPairs Agree (remove P i) = all_pairs_remove Agree P i rolls.inside was.agree in
+    let rest : AllPairs Agree (remove P i) = all_pairs_remove Agree P i rolls.first.inside was.agree in
     let both : AllPairs Agree (remove P i ++ map (in_lane lane) new) = all_pairs_append (remove P i) (map (in_lane lane) new) rest agree.among
     (λ k j d kl jl. rw (get_or-new lane new j d (omega (arith, jl, length-map new (in_lane lane)))) (agree.old k d j d.work kl (omega (arith, jl, length-map new (in_lane lane))))) in
     record { lanes = lanes; chains = chains; agree = subst (AllPairs Agree) (sym rolls.after) both }

@@ -42,7 +42,7 @@ all_remove T P i inside all k d in_rest =
 pub all_after : (T : Debt → Type 0) {P P' : List Debt} {i lane : ℕ} {w : Work} {new : List Work} → Rolls P i lane w new P' → All T P
     → ((k : ℕ) (d : Work) → k < length new → T (in_lane lane (get_or new k d))) → All T P'
 all_after T {P} {P'} {i} {lane} {w} {new} rolls all fresh = subst (All T) (sym rolls.after) (λ k d inside.
-    let old : All T (remove P i) = all_remove T P i rolls.inside all in
+    let old : All T (remove P i) = all_remove T P i rolls.first.inside all in
     let n : ℕ = length (remove P i) in
     let long : length (remove P i ++ map (in_lane lane) new) ≡ n + length (map (in_lane lane) new) = length-append (remove P i) (map (in_lane lane) new) in
     let count = length-map new (in_lane lane) in
@@ -71,7 +71,7 @@ pub record StaysParted (P : List Debt) (i lane : ℕ) (w : Work) (new : List Wor
 
 pub parted_counting : {P P' : List Debt} {i lane : ℕ} {w : Work} {new : List Work} → IsPartedByLane P → Rolls P i lane w new P' → StaysParted P i lane w new → IsPartedByLane P'
 parted_counting {P} {P'} {i} {lane} {w} {new} was rolls stays =
-    let here : IsLane lane = subst (λ (d : Debt). IsLane d.lane) (rolls.is_work (in_lane lane w)) (was.lanes i (in_lane lane w) rolls.inside) in
+    let here : IsLane lane = subst (λ (d : Debt). IsLane d.lane) (rolls.first.is_work (in_lane lane w)) (was.lanes i (in_lane lane w) rolls.first.inside) in
     roll_parted was rolls stays.agree
     (all_after (λ d. IsLane d.lane) rolls was.lanes (λ k d inside. here))
     (chains_after was rolls stays.chain)

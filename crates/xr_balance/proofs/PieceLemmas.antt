@@ -1,18 +1,19 @@
 -- The rows of steps on one file, by the piece that they take out and the run that they put in.
 use Rattle.std.proofs.Common.{◌≡◌, ℕ, ◌+◌, ◌-◌, ◌<◌, ◌≤◌, zero, suc, List, [], ◌∷◌, length, get_or, cond, eqb, arith, refl, ap, sym, ◌∙◌, true, false, Bool, ⊎_elim, Option, Some, None}
-use Rattle.std.specs.Prelude.{⊤, sum_by, ◌≢◌, All}
+use Rattle.std.specs.Prelude.{⊤, is_some, sum_by, ◌≢◌, All}
 use Rattle.std.proofs.lemmas.Bool.{cases_eq, eq-eqb, ne_eqb}
+use Rattle.xr_base.specs.declared.address.Addr.{Addr}
 use Rattle.xr_base.specs.declared.address.FileNo.{FileNo}
 use Rattle.xr_base.specs.declared.address.Run.{Run}
 use Rattle.xr_base.specs.declared.geometry.TheConstants.{FILES, OFFSETS}
 use Rattle.xr_maps.specs.FileMaps.{FileMaps, address_at}
 use Rattle.xr_maps.specs.Steps.{is_within}
-use Rattle.xr_maps.specs.Holdings.{holds, in_layout, in_run, sum_below, owners_of_file}
+use Rattle.xr_maps.specs.Holdings.{holds, in_layout, in_run, one_if, sum_below, owners_of_file}
 use Rattle.xr_maps.specs.StepLaws.{piece_held, in_or_out, same_slot}
 use Rattle.xr_items.specs.declared.work.Work.{Work}
 use Rattle.xr_balance.proofs.StepPremises.{IsStepRow}
 use Rattle.xr_balance.specs.Chains.{IsChain}
-use Rattle.xr_balance.specs.FirstGives.{IsHoleOrRun}
+use Rattle.xr_balance.specs.Pieces.{IsHoleOrRun}
 use Rattle.xr_balance.specs.Lanes.{owners_in}
 use Rattle.xr_balance.specs.Rows.{works_of_fresh, works_of_punch, works_of_share}
 use Rattle.xr_balance.specs.Settled.{bringing, taking}
@@ -155,6 +156,13 @@ piece_layout maps file off len None piece f o b = ⊎_elim
     (in_or_out off len o) ∙ zero_cond (eqb file.0 f))
     (λ ne. ap (λ t. cond t (cond (is_within off len o) (holds maps f o b) 0) 0) (ne_eqb file.0 f ne) ∙ zero_cond (eqb file.0 f))
     (cases_eq file.0 f)
+
+pub not_some : (a : Addr) → Some a ≡ None → ⊥
+not_some a e = absurd (omega (arith, ap (λ (s : Option Addr). one_if (is_some s)) e))
+
+abbrev pub address_number : Option Addr → ℕ
+address_number None = 0
+address_number (Some a) = a.0
 
 -- a piece is the same in maps that agree on the file
 pub same_piece : (maps others : FileMaps) (file : FileNo) (off len : ℕ) (old : Option Run) → ((o b : ℕ) → holds maps file.0 o b ≡ holds others file.0 o b)

@@ -16,8 +16,7 @@ use Rattle.xr_items.specs.Valid.{IsWork}
 use Rattle.xr_maps.specs.Holdings.{holds, one_if, owners, owners_of_file, sum_below}
 use Rattle.xr_maps.specs.StepLaws.{from-front}
 use Rattle.xr_balance.specs.Chains.{AreInOrder, lowering}
-use Rattle.xr_balance.specs.Ready.{IsFirstWork}
-use Rattle.xr_balance.specs.Rolls.{Rolls, in_lane}
+use Rattle.xr_balance.specs.Rolls.{IsFirstWork, Rolls, in_lane}
 use Rattle.xr_balance.specs.Settled.{Committed, IsDataOf, IsPartedByLane, IsSettled, chain_of}
 use Rattle.xr_balance.specs.Works.{Debt, IsLane, lowered, mapping_at, naming, naming_file, pairing, raised, staging, staging_pair, staging_unpair, sum_of_lanes, total, unmapping, unmapping_at, unpairing, unstaging}
 use Rattle.xr_balance.proofs.FindsWords.{Finds}
@@ -32,7 +31,7 @@ use Rattle.xr_balance.proofs.QuietLemmas.{no_offset}
 use Rattle.xr_balance.proofs.FirstCommits.{not_true}
 
 pub rolls_of : {P : List Debt} {i lane : ℕ} {w : Work} → IsFirstWork P i lane w → Rolls P i lane w [] (remove P i ++ [])
-rolls_of it = record { inside = it.inside; is_work = it.is_work; first = it.first; after = refl }
+rolls_of it = record { first = it; after = refl }
 
 -- what one lane alone does, its chain does
 total-in-lane : (f : Work → ℕ) (P : List Debt) (lane : ℕ) → ((k : ℕ) (d : Debt) → k < length P → (get_or P k d).lane ≢ lane → f (get_or P k d).work ≡ 0) → total f P ≡ total f (chain_of P lane)
@@ -69,7 +68,7 @@ total-by-lanes f P lanes =
     let g : ℕ → ℕ = λ l. total f (chain_of P l) in
     omega (arith, total-by-numbers f 9 P (λ k d l. omega (arith, (lanes k d l).1)), from-front 8 g, ap (total f) (no_lane_zero P lanes))
 
-below-times : (n m : ℕ) (f : ℕ → ℕ) → ((k : ℕ) → f k ≤ m) → sum_below n f ≤ sum_below n (λ _. m)
+pub below-times : (n m : ℕ) (f : ℕ → ℕ) → ((k : ℕ) → f k ≤ m) → sum_below n f ≤ sum_below n (λ _. m)
 unfolding sum_below
 below-times zero m f le = omega arith
 below-times (suc n) m f le = omega (arith, le n, below-times n m f le)

@@ -94,7 +94,7 @@ roll_keeps {C} {C'} {P} {P'} {M} {Q} {i} {lane} {w} {new} was it =
     record {
       base = B;
       good_base = was.good_base;
-      good = was.good;
+      good_maps = was.good_maps;
       maps = record {
         base = λ f o b. omega (arith, was.maps.base f o b, it.moves.maps f o b, map_on f o b, map_off f o b);
         exchanged = λ f o b. omega (arith, was.maps.exchanged f o b, takes f o b, brings f o b);

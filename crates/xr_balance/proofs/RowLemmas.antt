@@ -19,7 +19,7 @@ use Rattle.xr_balance.specs.Works.{freed, in_offsets, mapping_at, naming_file, u
 use Rattle.xr_balance.proofs.SumLemmas.{at_most_one}
 use Rattle.xr_balance.proofs.OrderLemmas.{order-none, order-cons}
 
-owner_same : (a f : ℕ) → eqb (128 + a) (128 + f) ≡ eqb a f
+pub owner_same : (a f : ℕ) → eqb (128 + a) (128 + f) ≡ eqb a f
 owner_same a f = ⊎_elim
     (λ e. rw (eq-eqb a f e, eq-eqb (128 + a) (128 + f) (omega (arith, e))) refl)
     (λ ne. rw (ne_eqb a f ne, ne_eqb (128 + a) (128 + f) (λ h. ne (omega (arith, h)))) refl)
@@ -104,7 +104,7 @@ fresh_row file off None new = record {
 }
 
 -- what each kind of work owes to those behind it
-unmap_head : (file : FileNo) (off : ℕ) (run : Run) (after : List Work) → ((b : ℕ) → 0 < in_run b run → 0 < sum_by (answering b) after) → GoesBefore (Map Mapping.Unmap file off run) after
+pub unmap_head : (file : FileNo) (off : ℕ) (run : Run) (after : List Work) → ((b : ℕ) → 0 < in_run b run → 0 < sum_by (answering b) after) → GoesBefore (Map Mapping.Unmap file off run) after
 unmap_head file off run after answered = record {
   unmapped = λ f o it. absurd (omega (arith, it));
   answered = answered;
@@ -113,7 +113,7 @@ unmap_head file off run after answered = record {
   exchanged_last = λ it. absurd (omega (arith, it));
 }
 
-map_head : (file : FileNo) (off : ℕ) (run : Run) (after : List Work) → ((f o : ℕ) → sum_by (unmapping_at f o) after ≡ 0) → GoesBefore (Map Mapping.Map file off run) after
+pub map_head : (file : FileNo) (off : ℕ) (run : Run) (after : List Work) → ((f o : ℕ) → sum_by (unmapping_at f o) after ≡ 0) → GoesBefore (Map Mapping.Map file off run) after
 map_head file off run after none = record {
   unmapped = λ f o it. none f o;
   answered = λ b it. absurd (omega (arith, it));
@@ -122,7 +122,7 @@ map_head file off run after none = record {
   exchanged_last = λ it. absurd (omega (arith, it));
 }
 
-unpair_head : (owner off : ℕ) (run : Run) (after : List Work) → ((b : ℕ) → 0 < in_run b run → 0 < sum_by (answering b) after) → GoesBefore (Own Owning.UnmapShared owner off run) after
+pub unpair_head : (owner off : ℕ) (run : Run) (after : List Work) → ((b : ℕ) → 0 < in_run b run → 0 < sum_by (answering b) after) → GoesBefore (Own Owning.UnmapShared owner off run) after
 unpair_head owner off run after answered = record {
   unmapped = λ f o it. absurd (omega (arith, it));
   answered = answered;
@@ -131,7 +131,7 @@ unpair_head owner off run after answered = record {
   exchanged_last = λ it. absurd (omega (arith, it));
 }
 
-pair_head : (owner off : ℕ) (run : Run) (after : List Work) → GoesBefore (Own Owning.MapShared owner off run) after
+pub pair_head : (owner off : ℕ) (run : Run) (after : List Work) → GoesBefore (Own Owning.MapShared owner off run) after
 pair_head owner off run after = record {
   unmapped = λ f o it. absurd (omega (arith, it));
   answered = λ b it. absurd (omega (arith, it));
@@ -171,7 +171,7 @@ last_head run = record {
   exchanged_last = λ it. absurd (omega (arith, it));
 }
 
-swap_head : (file : FileNo) (off : ℕ) (other : FileNo) (other_off len : ℕ) → GoesBefore (Swap file off other other_off len) []
+pub swap_head : (file : FileNo) (off : ℕ) (other : FileNo) (other_off len : ℕ) → GoesBefore (Swap file off other other_off len) []
 swap_head file off other other_off len = record {
   unmapped = λ f o it. absurd (omega (arith, it));
   answered = λ b it. absurd (omega (arith, it));

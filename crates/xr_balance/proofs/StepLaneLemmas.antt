@@ -1,24 +1,24 @@
 -- A first commit leaves what lanes hold, and what lanes hold gives two owners for each raise.
 use Rattle.xr_maps.specs.StepLaws.{sum_below-same}
-use Rattle.std.proofs.Common.{◌≡◌, ℕ, ◌+◌, ◌-◌, ◌<◌, ◌≤◌, zero, suc, List, ◌++◌, cond, eqb, arith, refl, ap, sym, ◌∙◌, true, false, map, Bool, ⊎_elim, ◌⊎◌, inl, inr, subst, append-nil}
+use Rattle.std.proofs.Common.{◌≡◌, ℕ, ◌+◌, ◌-◌, ◌<◌, ◌≤◌, zero, suc, List, cond, eqb, arith, refl, ap, sym, ◌∙◌, true, false, Bool, ⊎_elim, ◌⊎◌, inl, inr, subst}
 use Rattle.std.specs.Prelude.{sum_by, IsTrue, ◌≢◌}
 use Rattle.std.proofs.lemmas.Bool.{cases_lt, cases_eq, eq-eqb, ne_eqb}
 use Rattle.xr_base.specs.declared.geometry.TheConstants.{FILES}
-use Rattle.xr_maps.specs.FileMaps.{FileMaps}
 use Rattle.xr_items.specs.declared.work.Work.{Work}
 use Rattle.xr_maps.specs.Holdings.{in_run, one_if, owners, owners_of_file, sum_below}
-use Rattle.xr_balance.proofs.StepPremises.{StepHolds, StepsInLane}
+use Rattle.xr_balance.proofs.StepPremises.{StepHolds}
 use Rattle.xr_balance.specs.Lanes.{TwoOwners, lane_total, owners_in}
-use Rattle.xr_balance.specs.Rolls.{in_lane}
 use Rattle.xr_balance.specs.Rows.{works_of_staging}
-use Rattle.xr_balance.specs.Settled.{chain_of}
 use Rattle.xr_balance.specs.Stagings.{BeginsChain, StageHolds}
 use Rattle.xr_balance.specs.Works.{Debt, lowered, naming_file, raised, staging, staging_pair, sum_of_lanes, total, unstaging}
 use Rattle.xr_balance.proofs.TotalLemmas.{sum_by-in_lane}
-use Rattle.xr_balance.proofs.ChainLemmas.{chain-append, chain-new, chain-new-other}
+use Rattle.xr_balance.proofs.ChainLemmas.{chain-begun, chain-begun-other}
 use Rattle.xr_balance.proofs.CountSlots.{sum_below-none, sum_below-balance, sum_below-one}
 use Rattle.xr_balance.proofs.ReadyLemmas.{total-by-lanes}
-use Rattle.xr_balance.proofs.FirstCommits.{is_true}
+use Rattle.xr_balance.proofs.FirstCommits.{is_true, not_true}
+use Rattle.xr_balance.proofs.StagingEvents.{or_sum, staged_free, staged_more}
+use Rattle.xr_balance.proofs.SumLemmas.{lane-term}
+use Rattle.xr_maps.specs.Steps.{is_within}
 use Rattle.xr_balance.proofs.AloneLemmas.{chain-le}
 
 pub below-le : (n : ℕ) (f g : ℕ → ℕ) → ((k : ℕ) → f k ≤ g k) → sum_below n f ≤ sum_below n g
@@ -71,21 +71,16 @@ two_owners held mine P M Q b below lanes =
     below-le FILES _ n (λ f. below-unique 8 (n f) (λ k. held (suc k) f) (λ j k x y. let e = lanes.apart (suc j) (suc k) f x y in omega (arith, e))) in
     omega (arith, all, double, each, swap, most)
 
-lane-own : (g : Work → ℕ) (held mine mine' : ℕ → ℕ → Bool) {P P' : List Debt} {M M' : FileMaps} {Q Q' : ℕ → Bool} {lane : ℕ} {new : List Work} → StepsInLane held mine P M Q lane new P' M' mine' Q'
-    → lane_total g lane P' ≡ sum_by g new
-lane-own g held mine mine' {P} {P'} {M} {M'} {Q} {Q'} {lane} {new} it =
-    ap (λ R. lane_total g lane R) it.begins.after ∙ ap (total g) (chain-append P (map (in_lane lane) new) lane ∙ ap (λ c. c ++ chain_of (map (in_lane lane) new) lane) it.begins.idle ∙ chain-new lane new) ∙ sum_by-in_lane g lane new
+pub begun-own : (g : Work → ℕ) (P : List Debt) {P' : List Debt} {lane : ℕ} {new : List Work} → BeginsChain P lane new P' → lane_total g lane P' ≡ sum_by g new
+begun-own g P {P'} {lane} {new} begins = ap (total g) (chain-begun begins) ∙ sum_by-in_lane g lane new
 
-lane-other : (g : Work → ℕ) (held mine mine' : ℕ → ℕ → Bool) {P P' : List Debt} {M M' : FileMaps} {Q Q' : ℕ → Bool} {lane : ℕ} {new : List Work} (l : ℕ) → lane ≢ l → StepsInLane held mine P M Q lane new P' M' mine' Q'
-    → lane_total g l P' ≡ lane_total g l P
-lane-other g held mine mine' {P} {P'} {M} {M'} {Q} {Q'} {lane} {new} l ne it =
-    let is : chain_of (P ++ map (in_lane lane) new) l ≡ chain_of P l = chain-append P (map (in_lane lane) new) l ∙ rw (chain-new-other lane l new ne) (append-nil (chain_of P l)) in
-    ap (λ R. lane_total g l R) it.begins.after ∙ ap (total g) is
+pub begun-other : (g : Work → ℕ) (P : List Debt) {P' : List Debt} {lane : ℕ} {new : List Work} (l : ℕ) → lane ≢ l → BeginsChain P lane new P' → lane_total g l P' ≡ lane_total g l P
+begun-other g P l ne begins = ap (total g) (chain-begun-other l ne begins)
 
 pub step_holds : StepHolds
 step_holds held mine mine' P P' M M' Q Q' lane new was it =
-    let mine_total : (g : Work → ℕ) → lane_total g lane P' ≡ sum_by g new = λ g. lane-own g held mine mine' it in
-    let other_total : (g : Work → ℕ) (l : ℕ) → lane ≢ l → lane_total g l P' ≡ lane_total g l P = λ g l ne. lane-other g held mine mine' l ne it in
+    let mine_total : (g : Work → ℕ) → lane_total g lane P' ≡ sum_by g new = λ g. begun-own g P it.begins in
+    let other_total : (g : Work → ℕ) (l : ℕ) → lane ≢ l → lane_total g l P' ≡ lane_total g l P = λ g l ne. begun-other g P l ne it.begins in
     let same : (l b : ℕ) → lane ≢ l → owners_in (held l) M' b ≡ owners_in (held l) M b = λ l b ne. sum_below-same FILES _ _ (λ f. ⊎_elim
     (λ (h : held l f ≡ true). let out : held lane f ≡ false = not_held (held lane f) (λ here. ne (was.apart lane l f here (is_true (held l f) (omega (arith, ap one_if h))))) in rw (h, it.elsewhere f b out) refl)
     (λ (h : held l f ≡ false). rw h refl)
@@ -123,17 +118,16 @@ step_holds held mine mine' P P' M M' Q Q' lane new was it =
     not_held true h = absurd (h refl)
     not_held false h = refl
 
-begun-own : (g : Work → ℕ) (P : List Debt) {P' : List Debt} {lane : ℕ} {new : List Work} → BeginsChain P lane new P' → lane_total g lane P' ≡ sum_by g new
-begun-own g P {P'} {lane} {new} begins =
-    ap (λ R. lane_total g lane R) begins.after ∙ ap (total g) (chain-append P (map (in_lane lane) new) lane ∙ ap (λ c. c ++ chain_of (map (in_lane lane) new) lane) begins.idle ∙ chain-new lane new) ∙ sum_by-in_lane g lane new
-
-begun-other : (g : Work → ℕ) (P : List Debt) {P' : List Debt} {lane : ℕ} {new : List Work} (l : ℕ) → lane ≢ l → BeginsChain P lane new P' → lane_total g l P' ≡ lane_total g l P
-begun-other g P {P'} {lane} {new} l ne begins =
-    let is : chain_of (P ++ map (in_lane lane) new) l ≡ chain_of P l = chain-append P (map (in_lane lane) new) l ∙ rw (chain-new-other lane l new ne) (append-nil (chain_of P l)) in
-    ap (λ R. lane_total g l R) begins.after ∙ ap (total g) is
-
 pub stage_holds : StageHolds
-stage_holds held mine mine' C C' P P' M Q Q' lane run was it others own =
+stage_holds held mine mine' C C' P P' M Q Q' lane run settled was it others puts =
+    let staged : (b : ℕ) → one_if (Q' b) ≡ one_if (Q b) + in_run b run = λ b. staged_more settled it b in
+    -- what is free was staged for no lane
+    let own : (b : ℕ) → one_if (mine' lane b) ≡ one_if (mine lane b) + in_run b run = λ b. ap one_if (puts b) ∙ or_sum (mine lane b) (is_within run.start.0 run.len b) (λ one. not_true (mine lane b) (omega (
+      arith,
+      lane-term lane (λ l. one_if (mine l b)) it.begins.seat,
+      was.staged_for b,
+      ap one_if (staged_free settled it b one).unstaged,
+    ))) in
     let new : List Work = works_of_staging run in
     let mine_total : (g : Work → ℕ) → lane_total g lane P' ≡ sum_by g new = λ g. begun-own g P it.begins in
     let other_total : (g : Work → ℕ) (l : ℕ) → lane ≢ l → lane_total g l P' ≡ lane_total g l P = λ g l ne. begun-other g P l ne it.begins in
@@ -148,7 +142,7 @@ stage_holds held mine mine' C C' P P' M Q Q' lane run was it others own =
           let seat = it.begins.seat in
           let it_is : sum_of_lanes one ≡ in_run b run = sum_below-one 8 (lane - 1) (λ k. one (suc k)) (omega (arith, seat.0, seat.1)) (λ k _ ne. ap (λ t. cond t (in_run b run) 0) (ne_eqb (suc k) lane (λ e. ne (omega (arith, e)))))
           ∙ ap (λ t. cond t (in_run b run) 0) (eq-eqb (suc (lane - 1)) lane (omega (arith, seat.0))) in
-          omega (arith, all, it_is, sum_below-none 8 (λ _. 0) (λ _ _. refl), was.staged_for b, it.staged b);
+          omega (arith, all, it_is, sum_below-none 8 (λ _. 0) (λ _ _. refl), was.staged_for b, staged b);
       stages_own = λ l b some. ⊎_elim
           (λ e. subst (λ m. IsTrue (mine' m b)) e (is_true (mine' lane b) (omega (arith, own b, some, mine_total (staging b), mine_total (staging_pair b), ap (λ m. lane_total (staging b) m P') e, ap (λ m. lane_total (staging_pair b) m P') e))))
           (λ ne. subst IsTrue (sym (others l b (λ e. ne (sym e)))) (was.stages_own l b (omega (arith, some, other_total (staging b) l ne, other_total (staging_pair b) l ne))))

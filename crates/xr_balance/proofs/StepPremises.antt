@@ -6,6 +6,7 @@ use Rattle.xr_items.specs.declared.work.Work.TheVariants.{Swap}
 use Rattle.xr_items.specs.declared.work.Work.{Work}
 use Rattle.xr_maps.specs.FileMaps.{FileMaps, AreGoodMaps}
 use Rattle.xr_maps.specs.Holdings.{holds, is_mapped, one_if, owners, owners_of_file}
+use Rattle.xr_balance.specs.Chains.{IsChain}
 use Rattle.xr_balance.specs.Lanes.{LanesHold, owners_in}
 use Rattle.xr_balance.specs.Rows.{works_of_exchange}
 use Rattle.xr_balance.specs.Settled.{Committed, IsSettled, bringing, taking}
@@ -33,6 +34,7 @@ NamesApart P new = (f : ℕ) → 0 < sum_by (naming_file f) new → total (namin
 -- the first commit of a remap or a punch, by what its row names
 pub record BeginsStep (C : Committed) (P : List Debt) (M B : FileMaps) (Q : ℕ → Bool) (lane : ℕ) (new : List Work) (P' : List Debt) (M' B' : FileMaps) (Q' : ℕ → Bool) : Type 0 where
   pub begins : BeginsChain P lane new P'
+  pub chain : IsChain new
   pub row : IsStepRow new
   -- the maps change by the row
   pub good_base : AreGoodMaps B'

@@ -14,7 +14,7 @@ use Rattle.xr_items.specs.declared.work.CountKind.TheVariants.{Increase, Decreas
 use Rattle.xr_items.specs.declared.work.MapKind.TheVariants as Mapping
 use Rattle.xr_maps.specs.Holdings.{holds, in_layout, in_run, one_if, owners, owners_of_file, sum_below}
 use Rattle.xr_balance.specs.Settled.{bringing, taking}
-use Rattle.xr_balance.specs.Works.{Debt, exchanging_at, freed, mapping, mapping_at, naming, pairing, pairing_at, raised, staging, staging_pair, staging_unpair, total, unmapping, unmapping_at, unpairing, unpairing_at, unstaging}
+use Rattle.xr_balance.specs.Works.{Debt, IsLane, exchanging_at, freed, mapping, mapping_at, naming, pairing, pairing_at, raised, staging, staging_pair, staging_unpair, sum_of_lanes, total, unmapping, unmapping_at, unpairing, unpairing_at, unstaging}
 
 pub total-le : (f g : Work → ℕ) (P : List Debt) → ((w : Work) → f w ≤ g w) → total f P ≤ total g P
 total-le f g [] le = omega arith
@@ -56,7 +56,7 @@ pairing-le f o b (Free run) = omega arith
 pairing-le f o b (Count kind run) = omega arith
 pairing-le f o b (Swap file off other other_off len) = omega arith
 
-taken-le : (s t : Bool) (n : ℕ) → n ≤ 1 → cond (s && t) n 0 ≤ cond s (one_if t) 0
+pub taken-le : (s t : Bool) (n : ℕ) → n ≤ 1 → cond (s && t) n 0 ≤ cond s (one_if t) 0
 taken-le true true n le = le
 taken-le true false n le = omega arith
 taken-le false t n le = omega arith
@@ -85,6 +85,11 @@ term-le (suc n) k f l = ⊎_elim
     (λ e. omega (arith, ap f e))
     (λ ne. omega (arith, term-le n k f (omega (arith, l, ne))))
     (cases_eq k n)
+
+pub lane-term : (lane : ℕ) (f : ℕ → ℕ) → IsLane lane → f lane ≤ sum_of_lanes f
+lane-term lane f seat =
+    let same : suc (lane - 1) ≡ lane = omega (arith, seat.0) in
+    omega (arith, ap f same, term-le 8 (lane - 1) (λ k. f (suc k)) (omega (arith, seat.0, seat.1)))
 
 pub one_owner : (maps : FileMaps) (f o b : ℕ) → f < FILES → o < OFFSETS → holds maps f o b ≤ owners maps b
 one_owner maps f o b fl ol = omega (arith, term-le OFFSETS o (λ k. holds maps f k b) ol, term-le FILES f (owners_of_file maps b) fl)

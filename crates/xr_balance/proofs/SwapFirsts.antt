@@ -1,159 +1,31 @@
 -- The first commit of an exchange: what the maps hold, the owners that stay, and what lanes hold.
 use Rattle.xr_maps.specs.StepLaws.{sum_below-same}
-use Rattle.std.proofs.Common.{◌≡◌, ℕ, ◌+◌, ◌-◌, ◌<◌, ◌≤◌, zero, suc, List, ◌++◌, map, cond, eqb, arith, refl, ap, sym, ◌∙◌, true, false, Bool, ⊎_elim, ◌⊎◌, Option, subst}
+use Rattle.std.proofs.Common.{◌≡◌, ℕ, ◌+◌, ◌-◌, ◌<◌, List, cond, eqb, arith, refl, ap, sym, ◌∙◌, Bool, ⊎_elim, ◌⊎◌, subst}
 use Rattle.std.specs.Prelude.{◌≢◌, ◌&&◌, IsTrue}
-use Rattle.std.proofs.lemmas.Bool.{cases_eq, eq-eqb, ne_eqb}
+use Rattle.std.proofs.lemmas.Bool.{cases_eq, ne_eqb}
 use Rattle.xr_base.specs.declared.address.FileNo.{FileNo}
-use Rattle.xr_base.specs.declared.address.Addr.{Addr}
-use Rattle.xr_base.specs.declared.geometry.TheConstants.{FILES, OFFSETS}
+use Rattle.xr_base.specs.declared.geometry.TheConstants.{OFFSETS}
 use Rattle.xr_base.specs.Address.{address_of}
 use Rattle.xr_maps.specs.FileMaps.{FileMaps, address_at, AreGoodMaps}
 use Rattle.xr_maps.specs.Records.{maps_to}
 use Rattle.xr_maps.specs.declared.steps.Step.TheVariants.{Exchange}
-use Rattle.xr_maps.specs.Steps.{is_within, applied, IsFileRange, AreApart}
-use Rattle.xr_maps.specs.Holdings.{holds, one_if, sum_below, owners, owners_of_file}
-use Rattle.xr_maps.specs.StepLaws.{exchange_swaps, steps_leave_good_maps, in_or_out, in_range, below_range, above_range}
+use Rattle.xr_maps.specs.Steps.{is_within, applied, IsFileRange}
+use Rattle.xr_maps.specs.Holdings.{holds, one_if}
+use Rattle.xr_maps.specs.StepLaws.{exchange_swaps, steps_leave_good_maps}
 use Rattle.xr_items.specs.declared.work.Work.{Work}
 use Rattle.xr_items.specs.declared.work.Work.TheVariants.{Swap}
 use Rattle.xr_balance.proofs.StepPremises.{Exchanges, StepsInLane}
 use Rattle.xr_balance.specs.FirstGives.{FirstGives}
 use Rattle.xr_balance.specs.Lanes.{LanesHold}
-use Rattle.xr_balance.specs.Rolls.{in_lane}
 use Rattle.xr_balance.specs.Rows.{works_of_exchange}
 use Rattle.xr_balance.specs.Settled.{Committed, IsSettled, bringing, taking}
 use Rattle.xr_balance.specs.Stagings.{BeginsChain}
 use Rattle.xr_balance.specs.Works.{Debt, naming_file, total}
-use Rattle.xr_balance.proofs.CountSlots.{sum_below-balance, sum_below-none, sum_below-one}
+use Rattle.xr_balance.proofs.ExchangeBalances.{exchange_keeps_owners, exchange_moves}
 use Rattle.xr_balance.proofs.FirstCommits.{is_one}
 use Rattle.xr_balance.proofs.LaneLemmas.{idle_is_apart}
-use Rattle.xr_balance.proofs.RowLemmas.{rows_are_chains, two_files}
-use Rattle.xr_balance.proofs.StepLaneLemmas.{below-add}
-use Rattle.xr_balance.proofs.WholeFirsts.{file_agrees, uses_sum}
-
--- a range's offsets, each as far from its first one
-abbrev at_range : ℕ → ℕ → (ℕ → ℕ) → ℕ → ℕ
-at_range off len g o = cond (is_within off len o) (g (o - off)) 0
-
-window_part : (off len : ℕ) (g : ℕ → ℕ) (j : ℕ) → j ≤ len → sum_below (off + j) (at_range off len g) ≡ sum_below j g
-unfolding sum_below
-window_part off len g zero le = ap (λ n. sum_below n (at_range off len g)) (omega arith) ∙ sum_below-none off (at_range off len g) (λ k l. ap (λ t. cond t (g (k - off)) 0) (below_range off len k l))
-window_part off len g (suc j) le =
-    let n : off + suc j ≡ suc (off + j) = omega arith in
-    let place : off + j - off ≡ j = omega arith in
-    let here : at_range off len g (off + j) ≡ g j = ap (λ t. cond t (g (off + j - off)) 0) (in_range off len (off + j) (omega arith) (omega (arith, le))) ∙ ap g place in
-    ap (λ m. sum_below m (at_range off len g)) n ∙ omega (arith, here, window_part off len g j (omega (arith, le)))
-
-window_past : (off len : ℕ) (g : ℕ → ℕ) (r : ℕ) → sum_below (off + len + r) (at_range off len g) ≡ sum_below (off + len) (at_range off len g)
-unfolding sum_below
-window_past off len g zero = ap (λ n. sum_below n (at_range off len g)) (omega arith)
-window_past off len g (suc r) =
-    let n : off + len + suc r ≡ suc (off + len + r) = omega arith in
-    let none : at_range off len g (off + len + r) ≡ 0 = ap (λ t. cond t (g (off + len + r - off)) 0) (above_range off len (off + len + r) (omega arith)) in
-    ap (λ m. sum_below m (at_range off len g)) n ∙ omega (arith, none, window_past off len g r)
-
--- the sum over the offsets of a range
-window : (off len rest : ℕ) (g : ℕ → ℕ) → sum_below (off + len + rest) (at_range off len g) ≡ sum_below len g
-window off len rest g = window_past off len g rest ∙ window_part off len g len (omega arith)
-
-and_split : (s t : Bool) (n : ℕ) → cond (s && t) n 0 ≡ cond s (cond t n 0) 0
-and_split true t n = refl
-and_split false t n = refl
-
--- the sum over a range of a file, among all files and offsets
-range_sum : (file off len : ℕ) (k : ℕ → ℕ → ℕ) → file < FILES → off + len ≤ OFFSETS
-    → sum_below FILES (λ f. sum_below OFFSETS (λ o. cond (eqb file f && is_within off len o) (k f (o - off)) 0)) ≡ sum_below len (k file)
-range_sum file off len k is_file fits =
-    let rest : ℕ = OFFSETS - (off + len) in
-    let whole : OFFSETS ≡ off + len + rest = omega (arith, fits) in
-    sum_below-one FILES file _ is_file (λ f _ ne. sum_below-none OFFSETS _ (λ o _. and_split (eqb file f) (is_within off len o) (k f (o - off)) ∙ ap (λ t. cond t (cond (is_within off len o) (k f (o - off)) 0) 0) (ne_eqb file f (λ e. ne (sym e)))))
-    ∙ sum_below-same OFFSETS _ _ (λ o. and_split (eqb file file) (is_within off len o) (k file (o - off)) ∙ ap (λ t. cond t (cond (is_within off len o) (k file (o - off)) 0) 0) (eq-eqb file file refl))
-    ∙ ap (λ n. sum_below n (λ o. cond (is_within off len o) (k file (o - off)) 0)) whole ∙ window off len rest (k file)
-
--- the same of what stands at the offsets themselves
-own_range_sum : (file off len : ℕ) (k : ℕ → ℕ → ℕ) → file < FILES → off + len ≤ OFFSETS
-    → sum_below FILES (λ f. sum_below OFFSETS (λ o. cond (eqb file f && is_within off len o) (k f o) 0)) ≡ sum_below len (λ j. k file (off + j))
-own_range_sum file off len k is_file fits =
-    sum_below-same FILES _ _ (λ f. sum_below-same OFFSETS _ _ (λ o. ⊎_elim
-    (λ it. ap (λ n. cond (eqb file f && is_within off len o) (k f n) 0) (omega (arith, it.0)))
-    (λ out. ap (λ t. cond (eqb file f && t) (k f o) 0) out ∙ none (eqb file f) (k f o) (k f (off + (o - off))) ∙ ap (λ t. cond (eqb file f && t) (k f (off + (o - off))) 0) (sym out))
-    (in_or_out off len o)))
-    ∙ range_sum file off len (λ f j. k f (off + j)) is_file fits
-  where
-    none : (s : Bool) (x y : ℕ) → cond (s && false) x 0 ≡ cond (s && false) y 0
-    none true x y = refl
-    none false x y = refl
-
-eqb_sym : (m n : ℕ) → eqb m n ≡ eqb n m
-eqb_sym m n = ⊎_elim (λ e. rw (eq-eqb m n e, eq-eqb n m (sym e)) refl) (λ ne. rw (ne_eqb m n ne, ne_eqb n m (λ e. ne (sym e))) refl) (cases_eq m n)
-
--- of two ranges that have nothing in common one slot is swapped into at most one
-pick : (s t : Bool) (x y z : Option Addr) (h : Option Addr → ℕ) → (s ≡ true → t ≡ true → ⊥) → h (cond s x (cond t y z)) + (cond s (h z) 0 + cond t (h z) 0) ≡ h z + (cond s (h x) 0 + cond t (h y) 0)
-pick true true x y z h not = absurd (not refl refl)
-pick true false x y z h not = omega arith
-pick false true x y z h not = omega arith
-pick false false x y z h not = omega arith
-
-both_true : (m n off len o : ℕ) → (eqb m n && is_within off len o) ≡ true → (m ≡ n) × (off ≤ o) × (o < off + len)
-both_true m n off len o it = ⊎_elim
-    (λ e. ⊎_elim
-    (λ inside. (e, inside.0, inside.1))
-    (λ out. absurd (omega (arith, ap one_if (sym it ∙ ap (λ t. eqb m n && t) out ∙ none (eqb m n)))))
-    (in_or_out off len o))
-    (λ ne. absurd (omega (arith, ap one_if (sym it ∙ ap (λ t. t && is_within off len o) (ne_eqb m n ne)))))
-    (cases_eq m n)
-  where
-    none : (s : Bool) → (s && false) ≡ false
-    none true = refl
-    none false = refl
-
--- what an exchange does to what the maps hold
-exchange_balance : (M : FileMaps) (file : FileNo) (off : ℕ) (other : FileNo) (other_off len : ℕ) → AreGoodMaps M → IsFileRange file off len → IsFileRange other other_off len → AreApart file off other other_off len
-    → (f o b : ℕ) → holds (applied (Exchange file off other other_off len) M) f o b + taking M f o b (Swap file off other other_off len) ≡ holds M f o b + bringing M f o b (Swap file off other other_off len)
-exchange_balance M file off other other_off len good range other_range apart f o b =
-    let h : Option Addr → ℕ = λ slot. one_if (maps_to (address_of b) slot) in
-    let x : Option Addr = address_at M other.0 (other_off + (o - off)) in
-    let y : Option Addr = address_at M file.0 (off + (o - other_off)) in
-    let z : Option Addr = address_at M f o in
-    let is : address_at (applied (Exchange file off other other_off len) M) f o ≡ cond (eqb file.0 f && is_within off len o) x (cond (eqb other.0 f && is_within other_off len o) y z) =
-    exchange_swaps M file off other other_off len good range other_range f o
-    ∙ ap (λ t. cond (t && is_within off len o) x (cond (eqb f other.0 && is_within other_off len o) y z)) (eqb_sym f file.0)
-    ∙ ap (λ t. cond (eqb file.0 f && is_within off len o) x (cond (t && is_within other_off len o) y z)) (eqb_sym f other.0) in
-    omega (
-      arith,
-      ap h is,
-      pick (eqb file.0 f && is_within off len o) (eqb other.0 f && is_within other_off len o) x y z h (λ s t.
-          let p = both_true file.0 f off len o s in
-          let q = both_true other.0 f other_off len o t in
-          ⊎_elim
-          (λ differs. differs (ap (λ n. let number : FileNo = record { 0 = n } in number) (p.0 ∙ sym q.0)))
-          (λ order. ⊎_elim (λ below. absurd (omega (arith, p.2, q.1, below))) (λ above. absurd (omega (arith, q.2, p.1, above))) order)
-          apart),
-    )
-
--- each block has as many owners after it
-exchange_owners : (M : FileMaps) (file : FileNo) (off : ℕ) (other : FileNo) (other_off len : ℕ) → AreGoodMaps M → IsFileRange file off len → IsFileRange other other_off len → AreApart file off other other_off len
-    → (b : ℕ) → owners (applied (Exchange file off other other_off len) M) b ≡ owners M b
-exchange_owners M file off other other_off len good range other_range apart b =
-    let M' : FileMaps = applied (Exchange file off other other_off len) M in
-    let out : ℕ → ℕ → ℕ = λ f o. cond (eqb file.0 f && is_within off len o) (holds M f o b) 0 in
-    let other_out : ℕ → ℕ → ℕ = λ f o. cond (eqb other.0 f && is_within other_off len o) (holds M f o b) 0 in
-    let into : ℕ → ℕ → ℕ = λ f o. cond (eqb file.0 f && is_within off len o) (holds M other.0 (other_off + (o - off)) b) 0 in
-    let other_into : ℕ → ℕ → ℕ = λ f o. cond (eqb other.0 f && is_within other_off len o) (holds M file.0 (off + (o - other_off)) b) 0 in
-    let twice : (a c : ℕ → ℕ → ℕ) → sum_below FILES (λ f. sum_below OFFSETS (λ o. a f o + c f o)) ≡ sum_below FILES (λ f. sum_below OFFSETS (a f)) + sum_below FILES (λ f. sum_below OFFSETS (c f)) = λ a c.
-    sum_below-same FILES _ _ (λ f. sym (below-add OFFSETS (a f) (c f))) ∙ sym (below-add FILES (λ f. sum_below OFFSETS (a f)) (λ f. sum_below OFFSETS (c f))) in
-    let each : (f : ℕ) → owners_of_file M' b f + sum_below OFFSETS (λ o. out f o + other_out f o) ≡ owners_of_file M b f + sum_below OFFSETS (λ o. into f o + other_into f o) = λ f.
-    sum_below-balance OFFSETS (λ o. holds M' f o b) (λ o. out f o + other_out f o) (λ o. holds M f o b) (λ o. into f o + other_into f o) (λ o _. exchange_balance M file off other other_off len good range other_range apart f o b) in
-    let all = sum_below-balance FILES (owners_of_file M' b) (λ f. sum_below OFFSETS (λ o. out f o + other_out f o)) (owners_of_file M b) (λ f. sum_below OFFSETS (λ o. into f o + other_into f o)) (λ f _. each f) in
-    omega (
-      arith,
-      all,
-      twice out other_out,
-      twice into other_into,
-      own_range_sum file.0 off len (λ f o. holds M f o b) range.file_there range.within,
-      own_range_sum other.0 other_off len (λ f o. holds M f o b) other_range.file_there other_range.within,
-      range_sum file.0 off len (λ f j. holds M other.0 (other_off + j) b) range.file_there range.within,
-      range_sum other.0 other_off len (λ f j. holds M file.0 (off + j) b) other_range.file_there other_range.within,
-    )
+use Rattle.xr_balance.proofs.RowLemmas.{two_files}
+use Rattle.xr_balance.proofs.WholeFirsts.{file_agrees, uses_staged, uses_sum}
 
 -- the base and the maps agree on both files
 same_swap : (A B : FileMaps) (file : FileNo) (off : ℕ) (other : FileNo) (other_off len : ℕ) → ((o b : ℕ) → holds A file.0 o b ≡ holds B file.0 o b) → ((o b : ℕ) → holds A other.0 o b ≡ holds B other.0 o b)
@@ -183,11 +55,12 @@ swap_whole held mine mine' {C} {P} {P'} {M} {Q} {Q'} {lane} file off other other
     let M' : FileMaps = applied (Exchange file off other other_off len) M in
     let range = it.fits.0 in
     let other_range = it.fits.1 in
-    let none : total (naming_file file.0) P ≡ 0 = idle_is_apart held mine C P M Q lane file.0 was lanes it.idle it.holds_files.0 in
-    let other_none : total (naming_file other.0) P ≡ 0 = idle_is_apart held mine C P M Q lane other.0 was lanes it.idle it.holds_files.1 in
+    let none : total (naming_file file.0) P ≡ 0 = idle_is_apart held mine C P M Q lane file.0 was lanes it.begins.idle it.holds_files.0 in
+    let other_none : total (naming_file other.0) P ≡ 0 = idle_is_apart held mine C P M Q lane other.0 was lanes it.begins.idle it.holds_files.1 in
     let same = same_swap was.base M file off other other_off len (λ o b. (file_agrees file.0 was none o b).1) (λ o b. (file_agrees other.0 was other_none o b).1) in
-    let owners_stay = exchange_owners M file off other other_off len was.good range other_range it.fits.2 in
-    let begins : BeginsChain P lane new P' = record { idle = it.idle; seat = it.seat; after = subst (λ l. P' ≡ P ++ map (in_lane lane) l) it.row.row it.after; chain = rows_are_chains.exchange file off other other_off len } in
+    let uses = uses_staged held mine mine' lanes it.begins.seat it.uses (λ b one. absurd (omega (arith, one))) in
+    let owners_stay = exchange_keeps_owners M file off other other_off len was.good_maps it.fits in
+    let begins : BeginsChain P lane new P' = subst (λ l. BeginsChain P lane l P') it.row it.begins in
     let of_two : (f : ℕ) → 0 < naming_file f (Swap file off other other_off len) → (f ≡ file.0) ⊎ (f ≡ other.0) = λ f some. two_files file.0 other.0 f some in (
       record {
         begins = begins;
@@ -200,23 +73,23 @@ swap_whole held mine mine' {C} {P} {P'} {M} {Q} {Q'} {lane} file off other other
           apart = λ e. ⊎_elim (λ differs. absurd (differs (ap (λ n. let number : FileNo = record { 0 = n } in number) e))) (λ order. order) it.fits.2;
         };
         quiet = λ f some. ⊎_elim (λ e. ap (λ g. total (naming_file g) P) e ∙ none) (λ e. ap (λ g. total (naming_file g) P) e ∙ other_none) (of_two f some);
-        good = steps_leave_good_maps (Exchange file off other other_off len) M it.fits was.good;
-        step = λ f o b. omega (arith, exchange_balance M file off other other_off len was.good range other_range it.fits.2 f o b, (same f o b).0, (same f o b).1);
+        good = steps_leave_good_maps (Exchange file off other other_off len) M it.fits was.good_maps;
+        step = λ f o b. omega (arith, exchange_moves M file off other other_off len was.good_maps it.fits f o b, (same f o b).0, (same f o b).1);
         same_owners = owners_stay;
       },
       record {
         begins = begins;
         files = λ f some. ⊎_elim (λ e. subst (λ g. IsTrue (held lane g)) (sym e) it.holds_files.0) (λ e. subst (λ g. IsTrue (held lane g)) (sym e) it.holds_files.1) (of_two f (omega (arith, some)));
-        elsewhere = λ f b out. sum_below-same OFFSETS _ _ (λ o. ap (λ s. one_if (maps_to (address_of b) s)) (untouched M file off other other_off len f o was.good range other_range
+        elsewhere = λ f b out. sum_below-same OFFSETS _ _ (λ o. ap (λ s. one_if (maps_to (address_of b) s)) (untouched M file off other other_off len f o was.good_maps range other_range
             (λ e. absurd (omega (arith, is_one (held lane file.0) it.holds_files.0, ap (λ g. one_if (held lane g)) (sym e), ap one_if out)))
             (λ e. absurd (omega (arith, is_one (held lane other.0) it.holds_files.1, ap (λ g. one_if (held lane g)) (sym e), ap one_if out)))));
-        counts = λ b. omega (arith, owners_stay b, it.uses.staged b, it.row.unused b);
-        staged = λ b. omega (arith, it.uses.staged b, it.row.unused b);
+        counts = λ b. omega (arith, owners_stay b, uses.staged b);
+        staged = λ b. omega (arith, uses.staged b);
         raises = λ b. omega arith;
         unstages = λ b some. absurd (omega (arith, some));
         no_staging = λ b. refl;
         quiet = λ b some. absurd (omega (arith, some));
-        others = it.uses.others;
-        own = λ b. omega (arith, lanes.staged_for b, it.uses.staged b, uses_sum lane mine mine' it.used b it.seat (it.uses.own b) (λ l ne. it.uses.others l b ne));
+        others = uses.others;
+        own = λ b. omega (arith, lanes.staged_for b, uses.staged b, uses_sum lane mine mine' (λ _. 0) b it.begins.seat (uses.own b) (λ l ne. uses.others l b ne));
       },
     )

@@ -20,8 +20,8 @@ pub total-rolls : (f : Work → ℕ) {P P' : List Debt} {i lane : ℕ} {w : Work
 total-rolls f {P} {P'} {i} {lane} {w} {new} rolls =
     let d : Debt = in_lane lane w in
     let g : Debt → ℕ = λ e. f e.work in
-    let less : total f (remove P i) + f (get_or P i d).work ≡ total f P = sum_by-remove g P i d rolls.inside in
-    let it : f (get_or P i d).work ≡ f w = ap g (rolls.is_work d) in
+    let less : total f (remove P i) + f (get_or P i d).work ≡ total f P = sum_by-remove g P i d rolls.first.inside in
+    let it : f (get_or P i d).work ≡ f w = ap g (rolls.first.is_work d) in
     let more : total f (remove P i ++ map (in_lane lane) new) ≡ total f (remove P i) + total f (map (in_lane lane) new) = sum_by-append g (remove P i) (map (in_lane lane) new) in
     let whole : total f P' ≡ total f (remove P i ++ map (in_lane lane) new) = ap (total f) rolls.after in
     omega (arith, less, it, more, whole, sum_by-in_lane f lane new)
@@ -31,8 +31,8 @@ pub work-le-total : (f : Work → ℕ) {P P' : List Debt} {i lane : ℕ} {w : Wo
 work-le-total f {P} {P'} {i} {lane} {w} rolls =
     let d : Debt = in_lane lane w in
     let g : Debt → ℕ = λ e. f e.work in
-    let it : f (get_or P i d).work ≡ f w = ap g (rolls.is_work d) in
-    omega (arith, get_or-le-sum_by g P i d rolls.inside, it)
+    let it : f (get_or P i d).work ≡ f w = ap g (rolls.first.is_work d) in
+    omega (arith, get_or-le-sum_by g P i d rolls.first.inside, it)
 
 -- the kinds that a roll leaves alone
 pub total_same : (f : Work → ℕ) {P P' : List Debt} {i lane : ℕ} {w : Work} {new : List Work} → Rolls P i lane w new P'

@@ -9,7 +9,7 @@ use Rattle.xr_maps.specs.FileMaps.{FileMaps}
 use Rattle.xr_maps.specs.Holdings.{one_if, owners, sum_below}
 use Rattle.xr_balance.specs.Lanes.{lane_total}
 use Rattle.xr_balance.specs.Settled.{Committed, IsDataOf, IsSettled}
-use Rattle.xr_balance.specs.Waiting.{FewBlocksWait, sum_of_group, waiting}
+use Rattle.xr_balance.specs.Waiting.{FewBlocksWait, giving_back, sum_of_group, waiting}
 use Rattle.xr_balance.specs.Works.{Debt, freed, lowered, sum_of_lanes, total}
 use Rattle.xr_balance.proofs.ReadyLemmas.{total-by-lanes}
 use Rattle.xr_balance.proofs.StepLaneLemmas.{below-add, below-swap}
@@ -47,14 +47,14 @@ below-le-in (suc n) f g le = omega (arith, le n (omega arith), below-le-in n f g
 pub few_blocks_wait : FewBlocksWait
 few_blocks_wait held mine C P M Q group was lanes there small =
     let at : ℕ → ℕ = λ k. group * GROUP_BLOCKS + (FIRST_DATA_BLOCK + k) in
-    let own : ℕ → ℕ → ℕ = λ l b. one_if (mine l b) + lane_total (lowered b) l P + lane_total (freed b) l P in
+    let own : ℕ → ℕ → ℕ = λ l b. one_if (mine l b) + giving_back b l P in
     let lanes_of : (b : ℕ) → one_if (Q b) + total (lowered b) P + total (freed b) P ≡ sum_of_lanes (λ l. own l b) = λ b. omega (
       arith,
       lanes.staged_for b,
       total-by-lanes (lowered b) P was.parted.lanes,
       total-by-lanes (freed b) P was.parted.lanes,
-      below-add 8 (λ j. one_if (mine (suc j) b)) (λ j. lane_total (lowered b) (suc j) P),
-      below-add 8 (λ j. one_if (mine (suc j) b) + lane_total (lowered b) (suc j) P) (λ j. lane_total (freed b) (suc j) P),
+      below-add 8 (λ j. lane_total (lowered b) (suc j) P) (λ j. lane_total (freed b) (suc j) P),
+      below-add 8 (λ j. one_if (mine (suc j) b)) (λ j. giving_back b (suc j) P),
     ) in
     let each : sum_of_group group (waiting C M) ≤ sum_below DATA_BLOCKS (λ k. sum_of_lanes (λ l. own l (at k))) =
     below-le-in DATA_BLOCKS (λ k. waiting C M (at k)) (λ k. sum_of_lanes (λ l. own l (at k))) (λ k l. omega (arith, waits_for (at k) was (data_of C group k there small l), lanes_of (at k))) in

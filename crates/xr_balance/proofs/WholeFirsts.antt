@@ -1,6 +1,6 @@
 -- What a lane holds and what a lookup tells give all that the first commit of a remap or punch needs.
 use Rattle.xr_maps.specs.StepLaws.{sum_below-same}
-use Rattle.std.proofs.Common.{◌≡◌, ℕ, ◌+◌, ◌-◌, ◌<◌, ◌≤◌, zero, suc, List, [], ◌++◌, get_or, cond, eqb, arith, refl, ap, sym, ◌∙◌, true, false, map, Bool, ⊎_elim, inl, inr, Option, Some, None, subst}
+use Rattle.std.proofs.Common.{◌≡◌, ℕ, ◌+◌, ◌-◌, ◌<◌, ◌≤◌, zero, suc, List, get_or, cond, eqb, arith, refl, ap, sym, ◌∙◌, true, false, Bool, ⊎_elim, inl, inr, Option, Some, None, subst}
 use Rattle.std.specs.Prelude.{is_some, sum_by, ◌≢◌, ◌&&◌, All, IsTrue}
 use Rattle.std.proofs.lemmas.Bool.{cases_lt, cases_eq, eq-eqb, ne_eqb}
 use Rattle.std.proofs.lemmas.List.Sums.{get_or-le-sum_by}
@@ -10,22 +10,24 @@ use Rattle.xr_base.specs.declared.geometry.TheConstants.{FILES, OFFSETS}
 use Rattle.xr_maps.specs.FileMaps.{FileMaps, address_at, AreGoodMaps}
 use Rattle.xr_maps.specs.Steps.{is_within, IsFileRange}
 use Rattle.xr_maps.specs.Holdings.{holds, in_run, is_mapped, one_if, sum_below, owners, owners_of_file}
-use Rattle.xr_maps.specs.StepLaws.{in_or_out}
+use Rattle.xr_maps.specs.StepLaws.{in_or_out, same_slot}
 use Rattle.xr_items.specs.declared.work.Work.{Work}
 use Rattle.xr_items.specs.declared.work.Work.TheVariants.{Free, Own, Count, Map, Swap}
 use Rattle.xr_items.specs.Valid.{IsWork}
 use Rattle.xr_balance.proofs.StepPremises.{BeginsStep, StepsInLane}
-use Rattle.xr_balance.specs.FirstGives.{IsHoleOrRun, Uses}
+use Rattle.xr_balance.specs.Determined.{UnnamedFilesAgree}
+use Rattle.xr_balance.specs.FirstGives.{Uses}
+use Rattle.xr_balance.specs.Pieces.{IsHoleOrRun}
 use Rattle.xr_balance.specs.Lanes.{LanesHold, owners_in}
-use Rattle.xr_balance.specs.Rolls.{in_lane}
-use Rattle.xr_balance.specs.Settled.{Committed, IsSettled, bringing, chain_of, taking}
+use Rattle.xr_balance.specs.Settled.{Committed, IsSettled, bringing, taking}
 use Rattle.xr_balance.specs.Stagings.{BeginsChain}
 use Rattle.xr_balance.specs.Works.{Debt, IsLane, exchanging_at, lowered, mapping, mapping_at, naming_file, raised, sum_of_lanes, total, unmapping, unmapping_at, unstaging}
-use Rattle.xr_balance.proofs.SumLemmas.{at_most_one, term-le, one_owner, layout-there, total-le, total-same, mapping-le, unmapping-le, taking-le, bringing-le, run-range}
+use Rattle.xr_balance.proofs.SumLemmas.{at_most_one, lane-term, term-le, one_owner, layout-there, total-le, total-same, mapping-le, unmapping-le, taking-le, bringing-le, run-range}
 use Rattle.xr_balance.proofs.CountSlots.{sum_below-balance, sum_below-none, sum_below-one}
 use Rattle.xr_balance.proofs.QuietLemmas.{quiet_at, or_zero}
 use Rattle.xr_balance.proofs.FirstCommits.{is_one, total-begins, all_begin}
 use Rattle.xr_balance.proofs.LaneLemmas.{idle_is_apart, idle_is_staged, owned_is_unstaged}
+use Rattle.xr_balance.proofs.StagingEvents.{and_sum}
 use Rattle.xr_balance.proofs.StepLaneLemmas.{below-le, step_holds, two_owners}
 use Rattle.xr_balance.proofs.PieceLemmas.{blocks_of, offsets_of, layout_of, FitsAt, IsRow, piece_layout, same_piece, owners_step}
 
@@ -38,6 +40,9 @@ file_agrees {C} {P} {M} {Q} f was none o b =
       omega (arith, was.maps.base f o b, q, total-le (mapping f o b) (mapping_at f o) P (mapping-le f o b), total-le (unmapping f o b) (unmapping_at f o) P (unmapping-le f o b)),
       omega (arith, was.maps.exchanged f o b, q, total-le (taking B f o b) (exchanging_at f o) P (taking-le B f o b), total-le (bringing B f o b) (exchanging_at f o) P (bringing-le B f o b)),
     )
+
+pub unnamed_files_agree : UnnamedFilesAgree
+unnamed_files_agree C P M Q f was none o = same_slot (address_at C.maps f o) (address_at M f o) (λ b. (file_agrees f was none o b).0 ∙ (file_agrees f was none o b).1)
 
 not_named : (a file : ℕ) → one_if (eqb a file) ≡ 0 → a ≢ file
 not_named a file z e = absurd (omega (arith, z, ap one_if (eq-eqb a file e)))
@@ -65,15 +70,33 @@ apart_bringing A B file f o b (Own kind owner off run) none same = refl
 apart_bringing A B file f o b (Count kind run) none same = refl
 apart_bringing A B file f o b (Map kind named off run) none same = refl
 
+-- what a lane uses was staged for it, and is staged no more
+pub record UsesStaged (lane : ℕ) (mine : ℕ → ℕ → Bool) (Q : ℕ → Bool) (used : ℕ → ℕ) (mine' : ℕ → ℕ → Bool) (Q' : ℕ → Bool) : Type 0 where
+  pub own : (b : ℕ) → one_if (mine' lane b) + used b ≡ one_if (mine lane b)
+  pub others : (l b : ℕ) → l ≢ lane → mine' l b ≡ mine l b
+  pub staged : (b : ℕ) → one_if (Q' b) + used b ≡ one_if (Q b)
+
+pub uses_staged : (held mine mine' : ℕ → ℕ → Bool) {P : List Debt} {M : FileMaps} {Q Q' used : ℕ → Bool} {lane : ℕ} → LanesHold held mine P M Q → IsLane lane → Uses lane mine Q used mine' Q'
+    → ((b : ℕ) → one_if (used b) ≡ 1 → IsTrue (mine lane b)) → UsesStaged lane mine Q (λ b. one_if (used b)) mine' Q'
+uses_staged held mine mine' {P} {M} {Q} {Q'} {used} {lane} lanes seat it own = record {
+  own = λ b. ap (λ t. one_if t + one_if (used b)) (it.own b) ∙ and_sum (mine lane b) (used b) (λ one. is_one (mine lane b) (own b one));
+  others = it.others;
+  staged = λ b. ap (λ t. one_if t + one_if (used b)) (it.staged b) ∙ and_sum (Q b) (used b) (λ one. omega (
+    arith,
+    is_one (mine lane b) (own b one),
+    lane-term lane (λ l. one_if (mine l b)) seat,
+    lanes.staged_for b,
+    at_most_one (Q b),
+  ));
+}
+
 -- what is known where a lane begins a step on one file, which turns maps into `A` of them
 pub record Begins (held mine : ℕ → ℕ → Bool) (C : Committed) (P : List Debt) (M : FileMaps) (Q : ℕ → Bool) (lane : ℕ) (file : FileNo) (off len : ℕ) (old put : Option Run) (staged : Bool)
     (new : List Work) (A : FileMaps → FileMaps) (P' : List Debt) (mine' : ℕ → ℕ → Bool) (Q' : ℕ → Bool) : Type 0 where
   pub row : IsRow file off old put staged new
   pub range : IsFileRange file off len
   pub holds_file : IsTrue (held lane file.0)
-  pub idle : chain_of P lane ≡ []
-  pub seat : IsLane lane
-  pub after : P' ≡ P ++ map (in_lane lane) new
+  pub begins : BeginsChain P lane new P'
   pub piece : IsHoleOrRun C.maps file off len old
   pub old_fits : FitsAt old off
   pub put_fits : FitsAt put off
@@ -82,7 +105,7 @@ pub record Begins (held mine : ℕ → ℕ → Bool) (C : Committed) (P : List D
       → (f o b : ℕ) → holds (A maps) f o b + cond (eqb file.0 f) (layout_of old b o off) 0 ≡ holds maps f o b + cond (eqb file.0 f) (layout_of put b o off) 0
   pub good : (maps : FileMaps) → AreGoodMaps maps → AreGoodMaps (A maps)
   pub valid : All (λ w. IsWork w) new
-  pub uses : Uses lane mine Q (λ b. cond staged (blocks_of put b) 0) mine' Q'
+  pub uses : UsesStaged lane mine Q (λ b. cond staged (blocks_of put b) 0) mine' Q'
   pub own : (b : ℕ) → 0 < cond staged (blocks_of put b) 0 → IsTrue (mine lane b)
   pub raises : (b : ℕ) → 0 < cond staged 0 (blocks_of put b) → 2 ≤ owners_in (held lane) (A M) b
   pub unlike : (o b : ℕ) → 0 < cond staged 0 (layout_of put b o off) → holds M file.0 o b ≡ 0
@@ -128,7 +151,7 @@ piece_owner maps file off len (Some run) b piece fits some =
     omega (arith, laid, all, right, two_conds (eqb file.0 file.0) (is_within off len o) (holds maps file.0 o b), term-le OFFSETS o (λ k. holds maps file.0 k b) (omega (arith, r.0, r.1, fits)))
 
 -- in the range of the piece the file is mapped exactly where it is taken out
-piece_fills : (maps : FileMaps) (file : FileNo) (off len : ℕ) (old : Option Run) (o : ℕ) → IsHoleOrRun maps file off len old → is_mapped maps file.0 o + one_if (is_within off len o) ≤ 1 + offsets_of old o off
+pub piece_fills : (maps : FileMaps) (file : FileNo) (off len : ℕ) (old : Option Run) (o : ℕ) → IsHoleOrRun maps file off len old → is_mapped maps file.0 o + one_if (is_within off len o) ≤ 1 + offsets_of old o off
 piece_fills maps file off len (Some run) o piece = omega (arith, at_most_one (is_some (address_at maps file.0 o)), ap (λ n. one_if (is_within off n o)) piece.1)
 piece_fills maps file off len None o piece = ⊎_elim
     (λ it. let hole : address_at maps file.0 o ≡ None = ap (address_at maps file.0) (omega (arith, it.0)) ∙ piece (o - off) (omega (arith, it.0, it.1)) in
@@ -193,12 +216,12 @@ whole held mine mine' {C} {P} {P'} {M} {Q} {Q'} {lane} {file} {off} {len} {old} 
     let M' : FileMaps = A M in
     let row = it.row in
     let used : ℕ → ℕ = λ b. cond staged (blocks_of put b) 0 in
-    let none : total (naming_file file.0) P ≡ 0 = idle_is_apart held mine C P M Q lane file.0 was lanes it.idle it.holds_file in
+    let none : total (naming_file file.0) P ≡ 0 = idle_is_apart held mine C P M Q lane file.0 was lanes it.begins.idle it.holds_file in
     let agree = file_agrees file.0 was none in
     let piece_B = same_piece C.maps B file off len old (λ o b. (agree o b).0) it.piece in
     let piece_M = same_piece B M file off len old (λ o b. (agree o b).1) piece_B in
     let base = it.change B was.good_base piece_B in
-    let step = it.change M was.good piece_M in
+    let step = it.change M was.good_maps piece_M in
     let apart : (f o b : ℕ) → f ≢ file.0 → (holds (A B) f o b ≡ holds B f o b) × (holds M' f o b ≡ holds M f o b) = λ f o b ne.
     let no : eqb file.0 f ≡ false = ne_eqb file.0 f (λ h. ne (sym h)) in
     let a = ap (λ t. cond t (layout_of old b o off) 0) no in
@@ -208,8 +231,8 @@ whole held mine mine' {C} {P} {P'} {M} {Q} {Q'} {lane} {file} {off} {len} {old} 
     owners_step (λ _. true) b file.0 off old put M M' it.range.file_there it.old_fits it.put_fits refl (λ f o. step f o b) in
     let own_held : (b : ℕ) → owners_in (held lane) M' b + blocks_of old b ≡ owners_in (held lane) M b + blocks_of put b = λ b.
     owners_step (held lane) b file.0 off old put M M' it.range.file_there it.old_fits it.put_fits (true_is (held lane file.0) it.holds_file) (λ f o. step f o b) in
-    let staged_for = λ (b : ℕ) (some : 0 < used b). idle_is_staged held mine C P M Q lane b was lanes it.seat it.idle (it.own b some) in
-    let owned : (f b : ℕ) → f < FILES → IsTrue (held lane f) → 0 < owners_of_file M b f → (one_if (Q b) ≡ 0) × (total (unstaging b) P ≡ 0) = λ f b fl is some. owned_is_unstaged held mine C P M Q lane f b was lanes it.idle fl is some in
+    let staged_for = λ (b : ℕ) (some : 0 < used b). idle_is_staged held mine C P M Q lane b was lanes it.begins.seat it.begins.idle (it.own b some) in
+    let owned : (f b : ℕ) → f < FILES → IsTrue (held lane f) → 0 < owners_of_file M b f → (one_if (Q b) ≡ 0) × (total (unstaging b) P ≡ 0) = λ f b fl is some. owned_is_unstaged held mine C P M Q lane f b was lanes it.begins.idle fl is some in
     let counted : (b : ℕ) → 0 < sum_by (raised b) new + sum_by (lowered b) new → (one_if (Q b) ≡ 0) × (total (unstaging b) P ≡ 0) = λ b some. ⊎_elim
     (λ in_old. owned file.0 b it.range.file_there it.holds_file (piece_owner M file off len old b piece_M it.old_fits in_old))
     (λ out. let raise : 0 < cond staged 0 (blocks_of put b) = omega (arith, some, out, row.raises b, row.lowers b) in
@@ -217,11 +240,10 @@ whole held mine mine' {C} {P} {P'} {M} {Q} {Q'} {lane} {file} {off} {len} {old} 
     owned at.0 b at.1 at.2 at.3)
     (cases_lt 0 (blocks_of old b)) in
     let named_file : (f : ℕ) → 0 < sum_by (naming_file f) new → f ≡ file.0 = λ f some. ⊎_elim (λ e. e) (λ ne. absurd (omega (arith, some, row.files f ne))) (cases_eq f file.0) in
-    let begins : BeginsChain P lane new P' = record { idle = it.idle; seat = it.seat; after = it.after; chain = row.chain } in
     let counts : (b : ℕ) → owners M' b + one_if (Q' b) + sum_by (lowered b) new ≡ owners M b + one_if (Q b) + sum_by (raised b) new = λ b.
     omega (arith, own_total b, it.uses.staged b, row.lowers b, row.raises b, split_cond staged (blocks_of put b)) in
     let lane_step : StepsInLane held mine P M Q lane new P' M' mine' Q' = record {
-      begins = begins;
+      begins = it.begins;
       files = λ f some. subst (λ g. IsTrue (held lane g)) (sym (named_file f some)) it.holds_file;
       elsewhere = λ f b out. ⊎_elim
           (λ e. absurd (omega (arith, is_one (held lane file.0) it.holds_file, ap (λ g. one_if (held lane g)) (sym e), ap one_if out)))
@@ -242,14 +264,15 @@ whole held mine mine' {C} {P} {P'} {M} {Q} {Q'} {lane} {file} {off} {len} {old} 
           (λ zero. let q = staged_for b (omega (arith, some, zero, row.unstages b)) in omega (arith, q.0))
           (cases_lt 0 (sum_by (raised b) new + sum_by (lowered b) new));
       others = it.uses.others;
-      own = λ b. omega (arith, lanes.staged_for b, it.uses.staged b, uses_sum lane mine mine' used b it.seat (it.uses.own b) (λ l ne. it.uses.others l b ne));
+      own = λ b. omega (arith, lanes.staged_for b, it.uses.staged b, uses_sum lane mine mine' used b it.begins.seat (it.uses.own b) (λ l ne. it.uses.others l b ne));
     } in
     let after : LanesHold held mine' P' M' Q' = step_holds held mine mine' P P' M M' Q Q' lane new lanes lane_step in (
       record {
-        begins = begins;
+        begins = it.begins;
+        chain = row.chain;
         row = row.step;
         good_base = it.good B was.good_base;
-        good = it.good M was.good;
+        good = it.good M was.good_maps;
         base = λ f o b. omega (arith, base f o b, row.unmaps f o b, row.maps f o b);
         step = λ f o b. omega (arith, step f o b, row.unmaps f o b, row.maps f o b);
         staged = λ b. omega (arith, it.uses.staged b, row.unstages b);
@@ -261,14 +284,14 @@ whole held mine mine' {C} {P} {P'} {M} {Q} {Q'} {lane} {file} {off} {len} {old} 
             (cases_eq f file.0);
         takes = λ f o b. omega (
           arith,
-          total-begins (taking (A B) f o b) P lane new it.after,
+          total-begins (taking (A B) f o b) P lane new it.begins.after,
           row.takes (A B) f o b,
           total-same (taking (A B) f o b) (taking B f o b) P (λ k d l.
               apart_taking (A B) B file.0 f o b (get_or P k d).work (omega (arith, none, get_or-le-sum_by (λ (e : Debt). naming_file file.0 e.work) P k d l)) (λ g p c ne. (apart g p c ne).0)),
         );
         brings = λ f o b. omega (
           arith,
-          total-begins (bringing (A B) f o b) P lane new it.after,
+          total-begins (bringing (A B) f o b) P lane new it.begins.after,
           row.brings (A B) f o b,
           total-same (bringing (A B) f o b) (bringing B f o b) P (λ k d l.
               apart_bringing (A B) B file.0 f o b (get_or P k d).work (omega (arith, none, get_or-le-sum_by (λ (e : Debt). naming_file file.0 e.work) P k d l)) (λ g p c ne. (apart g p c ne).0)),
@@ -298,7 +321,7 @@ whole held mine mine' {C} {P} {P'} {M} {Q} {Q'} {lane} {file} {off} {len} {old} 
             (cases_lt 0 (blocks_of old b));
         counted_unstaged = counted;
         staged_now = λ b some. (staged_for b (omega (arith, some, row.unstages b))).0;
-        two_owners = λ b. omega (arith, total-begins (raised b) P lane new it.after, two_owners held mine' P' M' Q' b (all_begin (λ d. IsLane d.lane) P new it.after was.parted.lanes (λ k d l. it.seat)) after);
+        two_owners = λ b. omega (arith, total-begins (raised b) P lane new it.begins.after, two_owners held mine' P' M' Q' b (all_begin (λ d. IsLane d.lane) P new it.begins.after was.parted.lanes (λ k d l. it.begins.seat)) after);
       },
       lane_step,
       λ f some. ap (λ g. total (naming_file g) P) (named_file f some) ∙ none,
@@ -307,7 +330,7 @@ whole held mine mine' {C} {P} {P'} {M} {Q} {Q'} {lane} {file} {off} {len} {old} 
     -- what is put at an offset isn't there
     unlike_there : (o b : ℕ) → 0 < layout_of put b o off → holds M file.0 o b ≡ 0
     unlike_there o b some = ⊎_elim
-        (λ staged_one. let q = idle_is_staged held mine C P M Q lane b was lanes it.seat it.idle (it.own b (staged_block staged_one)) in
+        (λ staged_one. let q = idle_is_staged held mine C P M Q lane b was lanes it.begins.seat it.begins.idle (it.own b (staged_block staged_one)) in
         omega (arith, was.staging.unowned b q.1, one_owner M file.0 o b it.range.file_there (laid_in put b o off it.put_fits some).1))
         (λ zero. it.unlike o b (omega (arith, zero, some, split_cond staged (layout_of put b o off))))
         (cases_lt 0 (cond staged (layout_of put b o off) 0))

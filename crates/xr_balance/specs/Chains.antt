@@ -24,7 +24,8 @@ answering b (Count Decrease run) = in_run b run
 answering b (Own Owning.MapShared owner off run) = in_run b run
 answering b _ = 0
 
--- what the work is: a gift, a lowering, an exchange, or one of the two kinds that leave works of their own kind
+-- 1 where the work is a gift, a lowering, a raise, an exchange, or one of the two kinds that leave works of their own kind.
+-- These count works, where those above count how often a work names a block.
 abbrev pub giving : Work → ℕ
 giving (Free run) = 1
 giving _ = 0
@@ -41,10 +42,10 @@ abbrev pub exchanging : Work → ℕ
 exchanging (Swap file off other other_off len) = 1
 exchanging _ = 0
 
-abbrev pub counting : Work → ℕ
-counting (Count Increase run) = 1
-counting (Count Decrease run) = 1
-counting _ = 0
+abbrev pub recounting : Work → ℕ
+recounting (Count Increase run) = 1
+recounting (Count Decrease run) = 1
+recounting _ = 0
 
 abbrev pub other_than_giving : Work → ℕ
 other_than_giving (Free run) = 0
@@ -74,7 +75,7 @@ pub record IsChain (works : List Work) : Type 0 where
   pub given_once : sum_by giving works ≤ 1
   pub raised_once : sum_by raising works ≤ 1
   -- a chain with an exchange has no works that leave works of their kind
-  pub apart : 0 < sum_by exchanging works → sum_by counting works ≡ 0
+  pub apart : 0 < sum_by exchanging works → sum_by recounting works ≡ 0
   -- it names two files at most
   pub one : ℕ
   pub two : ℕ

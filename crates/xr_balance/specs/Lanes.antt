@@ -15,7 +15,8 @@ owners_in test maps b = sum_below FILES (λ f. if test f then owners_of_file map
 abbrev pub lane_total : (Work → ℕ) → ℕ → List Debt → ℕ
 lane_total g lane P = total g (chain_of P lane)
 
--- each lane with an open line holds its files (`held lane file`), and what it has staged and not yet mapped is its own (`mine lane block`)
+-- each lane with an open line holds its files (`held lane file`), and what it has staged and not yet mapped is its own (`mine lane block`).
+-- Lanes count from 1, so 0 has no chain; it holds nothing, and nothing is its own.
 pub record LanesHold (held : ℕ → ℕ → Bool) (mine : ℕ → ℕ → Bool) (P : List Debt) (M : FileMaps) (Q : ℕ → Bool) : Type 0 where
   -- no file is held twice, and no block is staged for two lanes
   pub apart : (l k f : ℕ) → IsTrue (held l f) → IsTrue (held k f) → l ≡ k

@@ -1,9 +1,11 @@
+pub mod ChainLaws
 pub mod Chains
 pub mod Determined
-pub mod ExchangeRolls
+pub mod ExchangeLaws
 pub mod FirstGives
 pub mod Fresh
 pub mod Lanes
+pub mod Pieces
 pub mod Ready
 pub mod RollGives
 pub mod RollLaws
@@ -12,4 +14,5 @@ pub mod Rows
 pub mod Settled
 pub mod Stagings
 pub mod Waiting
+pub mod Weights
 pub mod Works

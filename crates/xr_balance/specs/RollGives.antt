@@ -1,17 +1,17 @@
 -- What a roll of each kind of work does to the committed blocks, in the words of the trees' calls, and the works that it leaves.
 use Rattle.std.specs.Prelude.{◌≡◌, ◌≢◌, ℕ, ◌+◌, ◌-◌, ◌<◌, ◌≤◌, ◌==◌, ◌||◌, if◌then◌else◌, List, [], ◌∷◌}
+use Rattle.xr_base.specs.declared.address.FileNo.{FileNo}
 use Rattle.xr_base.specs.declared.address.Run.{Run}
-use Rattle.xr_maps.specs.FileMaps.{FileMaps}
 use Rattle.xr_maps.specs.Steps.{is_within}
 use Rattle.xr_items.specs.declared.work.Work.{Work}
 use Rattle.xr_items.specs.declared.work.Work.TheVariants.{Free, Own, Count, Map, Swap}
 use Rattle.xr_items.specs.declared.work.CountKind.{CountKind}
 use Rattle.xr_items.specs.declared.work.CountKind.TheVariants.{Increase, Decrease}
 use Rattle.xr_maps.specs.Holdings.{holds, in_run, is_mapped, one_if}
-use Rattle.xr_balance.specs.ExchangeRolls.{RollsExchange}
+use Rattle.xr_balance.specs.Pieces.{GivesPiece}
 use Rattle.xr_balance.specs.Rolls.{run_back, run_front, works_of_freed}
 use Rattle.xr_balance.specs.Settled.{Committed}
-use Rattle.xr_balance.specs.Works.{Debt, mapping, mapping_at, pairing, staging, staging_pair, staging_unpair, unmapping, unmapping_at, unpairing, unstaging}
+use Rattle.xr_balance.specs.Works.{mapping, mapping_at, pairing, staging, staging_pair, staging_unpair, unmapping, unmapping_at, unpairing, unstaging}
 
 -- the first n blocks of the run have one count, and the next one has another
 pub record IsEqualPart (C : Committed) (run : Run) (n count : ℕ) : Type 0 where
@@ -73,20 +73,19 @@ pub record RollsFree (C : Committed) (run : Run) (C' : Committed) (new : List Wo
   pub free : (b : ℕ) → C'.is_free b ≡ (C.is_free b || is_within run.start.0 run.len b)
   pub new_is : new ≡ []
 
--- an exchange changes no block, and leaves a piece in its place: the base changes
-pub record RollsSwap (C : Committed) (P : List Debt) (M B : FileMaps) (i : ℕ) (w : Work) (C' : Committed) (new : List Work) : Type 0 where
-  pub base : FileMaps
+-- an exchange changes no block, and leaves the works of a piece and of the rest
+pub record RollsSwap (C : Committed) (file : FileNo) (off : ℕ) (other : FileNo) (other_off len : ℕ) (C' : Committed) (new : List Work) : Type 0 where
   pub keeps : KeepsCommitted C C'
   pub counted : (b : ℕ) → C'.counted b ≡ C.counted b
   pub free : (b : ℕ) → C'.is_free b ≡ C.is_free b
-  pub exchange : RollsExchange C P M B i w new base
+  pub piece : GivesPiece C.maps file off other other_off len new
 
--- a roll of the work at place i of the pending ones, where the balance is for the maps M and the base B
-abbrev pub RollGives : Committed → List Debt → FileMaps → FileMaps → ℕ → Work → Committed → List Work → Type 0
-RollGives C P M B i (Map kind file off run) C' new = RollsPlain C (Map kind file off run) C' new
-RollGives C P M B i (Own kind owner off run) C' new = RollsPlain C (Own kind owner off run) C' new
-RollGives C P M B i (Count Increase run) C' new = RollsRaise C run C' new
-RollGives C P M B i (Count Decrease run) C' new = RollsLower C run C' new
-RollGives C P M B i (Count kind run) C' new = RollsPlain C (Count kind run) C' new
-RollGives C P M B i (Free run) C' new = RollsFree C run C' new
-RollGives C P M B i (Swap file off other other_off len) C' new = RollsSwap C P M B i (Swap file off other other_off len) C' new
+-- a roll of each kind of work
+abbrev pub RollGives : Committed → Work → Committed → List Work → Type 0
+RollGives C (Map kind file off run) C' new = RollsPlain C (Map kind file off run) C' new
+RollGives C (Own kind owner off run) C' new = RollsPlain C (Own kind owner off run) C' new
+RollGives C (Count Increase run) C' new = RollsRaise C run C' new
+RollGives C (Count Decrease run) C' new = RollsLower C run C' new
+RollGives C (Count kind run) C' new = RollsPlain C (Count kind run) C' new
+RollGives C (Free run) C' new = RollsFree C run C' new
+RollGives C (Swap file off other other_off len) C' new = RollsSwap C file off other other_off len C' new

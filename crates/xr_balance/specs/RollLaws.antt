@@ -11,9 +11,9 @@ use Rattle.xr_balance.specs.Works.{Debt}
 -- a roll keeps the balance and the maps that it stands for
 abbrev pub RollKeeps : Type 0
 RollKeeps = (C C' : Committed) (P P' : List Debt) (M : FileMaps) (Q : ℕ → Bool) (i lane : ℕ) (w : Work) (new : List Work)
-    → (was : IsSettled C P M Q) → Rolls P i lane w new P' → RollGives C P M was.base i w C' new → IsSettled C' P' M Q
+    → IsSettled C P M Q → Rolls P i lane w new P' → RollGives C w C' new → IsSettled C' P' M Q
 
 -- a roll leaves what lanes hold
 abbrev pub RollHolds : Type 0
 RollHolds = (held mine : ℕ → ℕ → Bool) (C C' : Committed) (P P' : List Debt) (M : FileMaps) (Q : ℕ → Bool) (i lane : ℕ) (w : Work) (new : List Work)
-    → (B : FileMaps) → LanesHold held mine P M Q → Rolls P i lane w new P' → RollGives C P M B i w C' new → LanesHold held mine P' M Q
+    → LanesHold held mine P M Q → Rolls P i lane w new P' → RollGives C w C' new → LanesHold held mine P' M Q

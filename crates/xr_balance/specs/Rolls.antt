@@ -10,12 +10,16 @@ use Rattle.xr_balance.specs.Works.{Debt}
 abbrev pub in_lane : ℕ → Work → Debt
 in_lane lane work = record { lane = lane; work = work }
 
--- the lane's first work, which stands at place i, is gone and its new works stand at the end
-pub record Rolls (P : List Debt) (i lane : ℕ) (work : Work) (new : List Work) (Q : List Debt) : Type 0 where
+-- the work stands at place i, and is its lane's first
+pub record IsFirstWork (P : List Debt) (i lane : ℕ) (work : Work) : Type 0 where
   pub inside : i < length P
   pub is_work : (d : Debt) → slice_index_or P i d ≡ in_lane lane work
-  pub first : (k : ℕ) (d : Debt) → k < i → (slice_index_or P k d).lane ≢ lane
-  pub after : Q ≡ remove P i ++ map (in_lane lane) new
+  pub none_before : (k : ℕ) (d : Debt) → k < i → (slice_index_or P k d).lane ≢ lane
+
+-- the lane's first work, which stands at place i, is gone and its new works stand at the end
+pub record Rolls (P : List Debt) (i lane : ℕ) (work : Work) (new : List Work) (P' : List Debt) : Type 0 where
+  pub first : IsFirstWork P i lane work
+  pub after : P' ≡ remove P i ++ map (in_lane lane) new
 
 -- the first n blocks of a run, and the others
 abbrev pub run_front : Run → ℕ → Run

@@ -1,5 +1,5 @@
 -- The works with which each event begins its chain, in their order.
-use Rattle.std.specs.Prelude.{ℕ, Option, ◌+◌, ◌≤◌, List, [], length, ◌∷◌, Some}
+use Rattle.std.specs.Prelude.{ℕ, Option, ◌+◌, ◌-◌, ◌≤◌, ◌==◌, if◌then◌else◌, List, [], ◌++◌, length, ◌∷◌, Some}
 use Rattle.xr_base.specs.declared.address.FileNo.{FileNo}
 use Rattle.xr_base.specs.declared.address.Run.{Run}
 use Rattle.xr_base.specs.declared.geometry.TheConstants.{FIRST_INODE, OWN_COW}
@@ -39,6 +39,27 @@ works_of_fresh file off (Some old) new =
     ∷ Count FreeCow new ∷ Count Decrease old ∷ []
 works_of_fresh file off _ new =
     Map Mapping.Map file off new ∷ Own Owning.Free OWN_COW 0 new ∷ Own Owning.MapShared (FIRST_INODE + file.0) off new ∷ Count FreeCow new ∷ []
+
+-- the work of a run; a hole has none
+abbrev pub work_of : (Run → Work) → Option Run → List Work
+work_of work (Some run) = work run ∷ []
+work_of work _ = []
+
+-- of a piece of an exchange, of which the first range held `one` and the second `two`: first those of files, then those of groups,
+-- and of each kind first the one on the first file
+abbrev pub works_of_piece : FileNo → ℕ → Option Run → FileNo → ℕ → Option Run → List Work
+works_of_piece file off one other other_off two =
+    work_of (λ run. Map Mapping.Unmap file off run) one ++ work_of (λ run. Map Mapping.Unmap other other_off run) two
+    ++ work_of (λ run. Map Mapping.Map file off run) two ++ work_of (λ run. Map Mapping.Map other other_off run) one
+    ++ work_of (λ run. Own Owning.UnmapShared (FIRST_INODE + file.0) off run) one
+    ++ work_of (λ run. Own Owning.UnmapShared (FIRST_INODE + other.0) other_off run) two
+    ++ work_of (λ run. Own Owning.MapShared (FIRST_INODE + file.0) off run) two
+    ++ work_of (λ run. Own Owning.MapShared (FIRST_INODE + other.0) other_off run) one
+
+-- of what is left of an exchange behind its first n offsets
+abbrev pub works_of_exchange_rest : FileNo → ℕ → FileNo → ℕ → ℕ → ℕ → List Work
+works_of_exchange_rest file off other other_off len n =
+    if n == len then [] else works_of_exchange file (off + n) other (other_off + n) (len - n)
 
 pub record RowsAreChains : Type 0 where
   pub staging : (run : Run) → IsChain (works_of_staging run)

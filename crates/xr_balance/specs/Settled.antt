@@ -117,7 +117,7 @@ pub record IsPartedByLane (P : List Debt) : Type 0 where
 pub record IsSettled (C : Committed) (P : List Debt) (M : FileMaps) (Q : ℕ → Bool) : Type 0 where
   pub base : FileMaps
   pub good_base : AreGoodMaps base
-  pub good : AreGoodMaps M
+  pub good_maps : AreGoodMaps M
   pub maps : MapsSettle C P base M
   pub staging : StagingSettles C P M Q
   pub pairs : PairsSettle C P base Q

@@ -1,11 +1,11 @@
 -- A run of free blocks is staged for a lane, and at a mount one that was left staged is released.
-use Rattle.std.specs.Prelude.{ℕ, ◌≡◌, ◌+◌, ◌<◌, Bool, List, [], map, ◌≢◌, ◌++◌}
+use Rattle.std.specs.Prelude.{ℕ, ◌≡◌, ◌+◌, ◌<◌, ◌||◌, ◌&&◌, Bool, not, IsTrue, List, [], map, ◌≢◌, ◌++◌}
 use Rattle.xr_base.specs.Address.{IsGoodRun, group_number}
 use Rattle.xr_base.specs.declared.address.Run.{Run}
 use Rattle.xr_items.specs.declared.work.Work.{Work}
 use Rattle.xr_maps.specs.FileMaps.{FileMaps}
+use Rattle.xr_maps.specs.Steps.{is_within}
 use Rattle.xr_maps.specs.Holdings.{in_run, one_if}
-use Rattle.xr_balance.specs.Chains.{IsChain}
 use Rattle.xr_balance.specs.Lanes.{LanesHold}
 use Rattle.xr_balance.specs.RollGives.{KeepsCommitted}
 use Rattle.xr_balance.specs.Rolls.{in_lane}
@@ -18,7 +18,6 @@ pub record BeginsChain (P : List Debt) (lane : ℕ) (new : List Work) (P' : List
   pub idle : chain_of P lane ≡ []
   pub seat : IsLane lane
   pub after : P' ≡ P ++ map (in_lane lane) new
-  pub chain : IsChain new
 
 -- a run of free blocks is staged
 pub record Stages (C : Committed) (P : List Debt) (Q : ℕ → Bool) (lane : ℕ) (run : Run) (C' : Committed) (P' : List Debt)
@@ -29,13 +28,14 @@ pub record Stages (C : Committed) (P : List Debt) (Q : ℕ → Bool) (lane : ℕ
   pub keeps : KeepsCommitted C C'
   pub counted : (b : ℕ) → C'.counted b ≡ C.counted b
   pub free : (b : ℕ) → one_if (C'.is_free b) + in_run b run ≡ one_if (C.is_free b)
-  pub staged : (b : ℕ) → one_if (Q' b) ≡ one_if (Q b) + in_run b run
+  pub staged : (b : ℕ) → Q' b ≡ (Q b || is_within run.start.0 run.len b)
 
--- where nothing is pending, a run that is left staged is released
+-- where nothing is pending, a run that the trees have staged is released
 pub record Releases (C : Committed) (Q : ℕ → Bool) (lane : ℕ) (run : Run) (P' : List Debt) (Q' : ℕ → Bool) : Type 0 where
   pub begins : BeginsChain [] lane (works_of_release run) P'
   pub good : IsGoodRun run
-  pub staged : (b : ℕ) → one_if (Q' b) + in_run b run ≡ one_if (Q b)
+  pub there : (b : ℕ) → in_run b run ≡ 1 → IsTrue (C.is_staged b)
+  pub staged : (b : ℕ) → Q' b ≡ (Q b && not (is_within run.start.0 run.len b))
 
 -- a staging and a release keep it, and leave the maps
 abbrev pub StageKeeps : Type 0
@@ -49,6 +49,6 @@ ReleaseKeeps = (C : Committed) (P' : List Debt) (M : FileMaps) (Q Q' : ℕ → B
 -- a staging for an idle lane leaves what lanes hold, and the run is the lane's
 abbrev pub StageHolds : Type 0
 StageHolds = (held mine mine' : ℕ → ℕ → Bool) (C C' : Committed) (P P' : List Debt) (M : FileMaps) (Q Q' : ℕ → Bool) (lane : ℕ) (run : Run)
-    → LanesHold held mine P M Q → Stages C P Q lane run C' P' Q'
-    → ((l b : ℕ) → l ≢ lane → mine' l b ≡ mine l b) → ((b : ℕ) → one_if (mine' lane b) ≡ one_if (mine lane b) + in_run b run)
+    → IsSettled C P M Q → LanesHold held mine P M Q → Stages C P Q lane run C' P' Q'
+    → ((l b : ℕ) → l ≢ lane → mine' l b ≡ mine l b) → ((b : ℕ) → mine' lane b ≡ (mine lane b || is_within run.start.0 run.len b))
     → LanesHold held mine' P' M Q'

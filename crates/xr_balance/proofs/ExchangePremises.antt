@@ -1,4 +1,4 @@
--- A roll of an exchange: a piece of the two ranges becomes unmappings and mappings, and the rest stays an exchange.
+-- What the roll of an exchange is given, by the sums over its works; the piece of two ranges gives all of it.
 use Rattle.std.specs.Prelude.{◌≡◌, ℕ, ◌+◌, ◌<◌, ◌≤◌, List, remove, sum_by, All}
 use Rattle.xr_maps.specs.FileMaps.{FileMaps, AreGoodMaps}
 use Rattle.xr_items.specs.declared.work.Work.{Work}
