@@ -1,0 +1,53 @@
+-- Blocks that lie together in an image have their copies together.
+use Rattle.std.proofs.Common.{◌≡◌, ℕ, zero, suc, ◌+◌, ◌-◌, ◌*◌, ◌/◌, ◌%◌, ◌<◌, ◌∙◌, List, ◌++◌, take, drop, refl, sym, ap, arith}
+use Rattle.std.proofs.Math.Seq.{take-add}
+use Rattle.std.proofs.lemmas.Bool.{cond-false, cond-true, le-ltb, lt-ltb}
+use Rattle.std.proofs.lemmas.List.{drop-drop}
+use Rattle.xr_base.specs.Image.{part}
+use Rattle.xr_scan.specs.Scanned.{blocks_from, bytes_from, copy_number, scanned_state}
+use Rattle.xr_scan.specs.declared.scanned.Scanned.{Scanned}
+
+join : (place n : ℕ) (xs : List ℕ) → part (4096 * place) 4096 xs ++ part (4096 * (place + 1)) (4096 * n) xs ≡ part (4096 * place) (4096 * suc n) xs
+join place n xs =
+    let e : 4096 * (place + 1) ≡ 4096 * place + 4096 = omega arith in
+    let f : 4096 * suc n ≡ 4096 + 4096 * n = omega arith in
+    ap (λ (rest : List ℕ). part (4096 * place) 4096 xs ++ take (4096 * n) rest) (ap (λ (k : ℕ). drop k xs) e ∙ sym (drop-drop 4096 (4096 * place) xs))
+    ∙ sym (take-add 4096 (4096 * n) (drop (4096 * place) xs)) ∙ ap (λ (k : ℕ). take k (drop (4096 * place) xs)) (sym f)
+
+run_bytes : (scanned : Scanned) (first place n : ℕ) → ((k : ℕ) → k < n → copy_number (first + k) ≡ place + k)
+    → bytes_from (scanned_state scanned) first n ≡ part (4096 * place) (4096 * n) scanned.blocks.items
+unfolding blocks_from
+run_bytes scanned first place zero each = refl
+run_bytes scanned first place (suc n) each =
+    let xs : List ℕ = scanned.blocks.items in
+    let here : copy_number first ≡ place = ap copy_number (omega arith) ∙ each 0 (omega arith) ∙ omega arith in
+    let rest = run_bytes scanned (suc first) (place + 1) n (λ k below. ap copy_number (omega arith) ∙ each (k + 1) (omega (arith, below)) ∙ omega arith) in
+    ap (λ (p : ℕ). part (4096 * p) 4096 xs ++ bytes_from (scanned_state scanned) (suc first) n) here ∙ ap (λ (ys : List ℕ). part (4096 * place) 4096 xs ++ ys) rest
+    ∙ join place n xs
+
+file_copy : (file k : ℕ) → file < 32 → k < 8 → copy_number (520 + 8 * file + k) ≡ 8 * file + k
+file_copy file k small below = cond-true _ _ _ (lt-ltb (520 + 8 * file + k) 776 (omega (arith, small, below))) ∙ omega arith
+
+group_copy : (group k : ℕ) → k < 512 → copy_number (776 + 2048 * group + k) ≡ 256 + 512 * group + k
+group_copy group k below =
+    cond-false _ _ _ (le-ltb (776 + 2048 * group + k) 776 (omega arith))
+    ∙ (let q : (776 + 2048 * group + k - 776) / 2048 ≡ group = omega (arith, below) in let r : (776 + 2048 * group + k - 776) % 2048 ≡ k = omega (arith, below) in rw (q, r) (omega arith))
+
+-- bytes from a place on, as they are taken
+taken : (at n place : ℕ) (found xs : List ℕ) → found ≡ xs → at ≡ 4096 * place → take (at + n - at) (drop at found) ≡ part (4096 * place) n xs
+taken at n place found xs same is =
+    let e : at + n - at ≡ n = omega arith in
+    ap (λ (k : ℕ). take k (drop at found)) e ∙ ap (λ (ys : List ℕ). take n (drop at ys)) same ∙ ap (λ (k : ℕ). take n (drop k xs)) is
+
+pub file_bytes : (scanned : Scanned) (file : ℕ) (found : List ℕ) → file < 32 → found ≡ scanned.blocks.items
+    → take (32768 * file + 32768 - 32768 * file) (drop (32768 * file) found) ≡ bytes_from (scanned_state scanned) (520 + 8 * file) 8
+file_bytes scanned file found small same =
+    taken (32768 * file) 32768 (8 * file) found scanned.blocks.items same (omega arith)
+    ∙ sym (run_bytes scanned (520 + 8 * file) (8 * file) 8 (λ k below. file_copy file k small below))
+
+pub group_bytes : (scanned : Scanned) (group : ℕ) (found : List ℕ) → found ≡ scanned.blocks.items
+    → take (1048576 + 2097152 * group + 2097152 - (1048576 + 2097152 * group)) (drop (1048576 + 2097152 * group) found)
+    ≡ bytes_from (scanned_state scanned) (776 + 2048 * group) 512
+group_bytes scanned group found same =
+    taken (1048576 + 2097152 * group) 2097152 (256 + 512 * group) found scanned.blocks.items same (omega arith)
+    ∙ sym (run_bytes scanned (776 + 2048 * group) (256 + 512 * group) 512 (λ k below. group_copy group k below))

@@ -1,0 +1,31 @@
+-- What a scan found is what the image holds.
+use Rattle.std.proofs.Common.{◌≡◌, ℕ, List, length, ap, subst, arith}
+use Rattle.xr_commit.specs.LiveStream.{IsLiveIn}
+use Rattle.xr_commit.specs.LogRecords.{log_of}
+use Rattle.xr_commit.specs.LoggedItems.{Logged}
+use Rattle.xr_commit.specs.Pending.{pending}
+use Rattle.xr_scan.specs.LoggedEntries.{logged_items}
+use Rattle.xr_scan.specs.ScannedLaws.{ScannedHasFew, ScannedHolds}
+use Rattle.xr_scan.specs.State.{works_of}
+use Rattle.xr_scan.proofs.StateLemmas.{one_logged, one_super}
+
+pub scanned_holds : ScannedHolds
+scanned_holds image scanned is = record {
+  superblock = is.superblock;
+  heads = is.heads;
+  entries = is.entries;
+  live_in = is.live_in;
+  logged = is.logged;
+  log_all = is.log_all;
+  blocks = is.blocks;
+  works = ap works_of is.pending_are;
+}
+
+pub scanned_has_few : ScannedHasFew
+scanned_has_few image scanned is many =
+    let uuid : many.uuid ≡ scanned.uuid = one_super image many.uuid scanned.uuid many.superblock is.superblock in
+    let logged : many.logged ≡ is.logged = one_logged image scanned.uuid many.heads is.heads many.entries is.entries many.logged is.logged
+    (subst (λ (u : List ℕ). IsLiveIn u (log_of image) many.heads many.entries) uuid many.live_in) is.live_in many.log_all is.log_all in
+    let few = is.few in
+    let over = many.many in
+    omega (arith, few, over, ap length is.pending_are, ap (λ (ls : List Logged). length (pending (logged_items ls))) logged)

@@ -1,0 +1,8 @@
+use Rattle.xr_scan.proofs.RefusalLemmas.{live_is_taken, one_refusal}
+use Rattle.xr_scan.proofs.laws.refusals_are_exact.Goals as goal
+
+pub returns-clause-taken : goal.returns-clause-taken
+returns-clause-taken c = live_is_taken
+
+pub returns-clause-one : goal.returns-clause-one
+returns-clause-one c = one_refusal

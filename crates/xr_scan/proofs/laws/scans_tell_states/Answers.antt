@@ -1,0 +1,8 @@
+use Rattle.xr_scan.proofs.ScannedLemmas.{scanned_has_few, scanned_holds}
+use Rattle.xr_scan.proofs.laws.scans_tell_states.Goals as goal
+
+pub returns-clause-holds : goal.returns-clause-holds
+returns-clause-holds c = scanned_holds
+
+pub returns-clause-few : goal.returns-clause-few
+returns-clause-few c = scanned_has_few

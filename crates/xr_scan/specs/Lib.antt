@@ -1,0 +1,13 @@
+pub mod FalseRecordLaws
+pub mod FalseRecords
+pub mod FreshStateLaws
+pub mod LoggedEntries
+pub mod LoggedLaws
+pub mod RefusalLaws
+pub mod Replaying
+pub mod ReplayLaws
+pub mod Replayed
+pub mod Scanned
+pub mod ScannedLaws
+pub mod State
+pub mod StateLaws

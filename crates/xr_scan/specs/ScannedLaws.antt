@@ -1,0 +1,11 @@
+-- What was found of an image is what it holds, and no image is both scanned and refused.
+use Rattle.std.specs.Prelude.{ℕ, List}
+use Rattle.xr_scan.specs.Scanned.{HasTooMany, IsScanned, scanned_state}
+use Rattle.xr_scan.specs.State.{Holds}
+use Rattle.xr_scan.specs.declared.scanned.Scanned.{Scanned}
+
+abbrev pub ScannedHolds : Type 0
+ScannedHolds = (image : List ℕ) (scanned : Scanned) → IsScanned image scanned → Holds image (scanned_state scanned)
+
+abbrev pub ScannedHasFew : Type 0
+ScannedHasFew = (image : List ℕ) (scanned : Scanned) → IsScanned image scanned → HasTooMany image → ⊥

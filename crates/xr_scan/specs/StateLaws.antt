@@ -1,0 +1,6 @@
+-- An image holds one state at most.
+use Rattle.std.specs.Prelude.{ℕ, List}
+use Rattle.xr_scan.specs.State.{Holds, IsSameState, State}
+
+abbrev pub IsOneState : Type 0
+IsOneState = (image : List ℕ) (one two : State) → Holds image one → Holds image two → IsSameState one two

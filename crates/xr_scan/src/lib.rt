@@ -1,0 +1,15 @@
+//! What an image holds: the blocks that a log keeps and the pending works, by the image's live stream.
+#![tactic(auto)]
+
+mod blocks;
+mod laws;
+mod layout;
+mod replay;
+mod scanned;
+
+pub use laws::{
+    fresh_images_hold_their_blocks, images_hold_one_state, live_records_are_placed,
+    live_streams_log_items, refusals_are_exact, replays_go_on, scans_tell_states,
+    whole_writes_make_no_false_record,
+};
+pub use scanned::Scanned;
