@@ -1,0 +1,10 @@
+pub mod BesideLemmas
+pub mod CoreLemmas
+pub mod ExtentLemmas
+pub mod FileCallLemmas
+pub mod FilePoolLemmas
+pub mod MapLemmas
+pub mod OpenLemmas
+pub mod PartLemmas
+pub mod PieceLemmas
+pub mod RangeLemmas

@@ -1,0 +1,12 @@
+-- What the new extent goes on has the offset in front of it.
+use Rattle.std.proofs.Common.{refl, sym, ◌∙◌}
+use Rattle.xr_bmap.proofs.BesideLemmas.{none_in_front, one_in_front}
+use Rattle.xr_bmap.proofs.bmap.Bmap.left_of.Goals as goal
+
+pub returns-in_err-found-clause-none : goal.returns-in_err-found-clause-none
+returns-in_err-found-clause-none c none = none_in_front _ c.requires.tree.records c.args.new.now (c.in_err-found.ensures.none refl)
+
+pub returns-else-runs_on-clause-none : goal.returns-else-runs_on-clause-none
+returns-else-runs_on-clause-none c none =
+    let found = c.in_ok-found.ensures.some in
+    one_in_front _ c.requires.tree.records c.args.new.now c.in_ok-found.found found.0 found.1 (sym c.runs_on.ensures ∙ c.if-runs_on.false)

@@ -1,0 +1,16 @@
+pub mod Bmap
+pub mod ExtentListLaws
+pub mod ExtentLists
+pub mod File
+pub mod FreshFile
+pub mod FreshFileLaws
+pub mod Joins
+pub mod LeafTreeLaws
+pub mod LeafTrees
+pub mod OpenFile
+pub mod Opening
+pub mod Parts
+pub mod PieceLaws
+pub mod Pieces
+pub mod SlotLaws
+pub mod Slots
