@@ -1,0 +1,11 @@
+pub mod AddressLemmas
+pub mod CallLemmas
+pub mod CountLemmas
+pub mod FreeLemmas
+pub mod GroupPoolLemmas
+pub mod HeadLemmas
+pub mod OpenLemmas
+pub mod OpenTreeLemmas
+pub mod PartLemmas
+pub mod RefusalLemmas
+pub mod RoomLemmas

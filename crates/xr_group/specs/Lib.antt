@@ -1,0 +1,6 @@
+pub mod Group
+pub mod OpenGroup
+pub mod Opening
+pub mod Parts
+pub mod Sets
+pub mod Trees
