@@ -18,7 +18,7 @@ use Rattle.xr_block.specs.TreeBlock.{Site}
 use Rattle.xr_block.specs.Trees.{blocks_of_tree}
 use Rattle.xr_block.specs.declared.root.Root.{Root}
 use Rattle.xr_bmap.proofs.FilePoolLemmas.{pool_same}
-use Rattle.xr_bmap.specs.Parts.{ChangesParts, CoreWritten, HasFile, HasOldCore, core_of}
+use Rattle.xr_bmap.specs.Parts.{ChangesFileParts, CoreWritten, HasFile, HasOldCore, core_of}
 use Rattle.xr_change.specs.TreeSteps.{IsTreeStep}
 use Rattle.xr_headers.specs.Headers.{IsCore, core_block}
 use Rattle.xr_headers.specs.declared.file_core.Core.{Core}
@@ -171,7 +171,7 @@ module _ (file : ℕ) (uuid : List ℕ) (a b : Blocks) (old new : Root) (most wr
         core = zero.0 ∙ h.core;
       }
 
-  pub parts_changed : (c : Blocks) → CoreWritten b c new → ChangesParts a old c
+  pub parts_changed : (c : Blocks) → CoreWritten b c new → ChangesFileParts a old c
   parts_changed c written = record {
     kept = written.kept ∙ step.frame.kept;
     dropped = written.dropped

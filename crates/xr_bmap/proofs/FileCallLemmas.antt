@@ -8,7 +8,7 @@ use Rattle.xr_block.specs.declared.root.Root.{Root}
 use Rattle.xr_bmap.proofs.FilePoolLemmas.{blocks_read, extents_read, free_read}
 use Rattle.xr_bmap.specs.Bmap.{PunchesIn, RemapsIn, slot_in}
 use Rattle.xr_bmap.specs.File.{ChangesFile, FileState, PunchesFile, RemapsFile, dropped_to_kept, kept_now, slot_of_file}
-use Rattle.xr_bmap.specs.Parts.{AreFileParts, ChangesParts, HasFile, file_state_of}
+use Rattle.xr_bmap.specs.Parts.{AreFileParts, ChangesFileParts, HasFile, file_state_of}
 use Rattle.xr_bmap.specs.Slots.{IsMappedRun, IsPieceAt, mapped_in, piece_len}
 use Rattle.xr_bmap.specs.declared.bmap.Bmap.{Bmap}
 use Rattle.xr_bmap.specs.declared.piece.Piece.{Piece}
@@ -50,7 +50,7 @@ module _ (file : ℕ) (uuid : List ℕ) (a b : Blocks) (s t : Bmap) (f : FileSta
   punches_read off len maps o = slot_read file uuid b t after o ∙ maps o ∙ ap (punched_slot off len o) (slots_are file uuid a s before f is o)
 
 module _ (file : ℕ) (uuid : List ℕ) (a b : Blocks) (s : Bmap) (before : HasFile file uuid a s.tree) where
-  pub changes_read : ChangesParts a s.tree b → ChangesFile (file_state_of file uuid a) (file_state_of file uuid b)
+  pub changes_read : ChangesFileParts a s.tree b → ChangesFile (file_state_of file uuid a) (file_state_of file uuid b)
   changes_read parts = record {
     number = refl;
     uuid = refl;
@@ -86,7 +86,7 @@ module _ (file : ℕ) (uuid : List ℕ) (b : Blocks) (t : Root) (h : HasFile fil
   }
 
 module _ (file : ℕ) (uuid : List ℕ) (a : Blocks) (now kept : Root) (parts : AreFileParts file uuid a now kept) where
-  pub parts_after : (b : Blocks) (new : Root) → ChangesParts a now b → HasFile file uuid b new → AreFileParts file uuid b new kept
+  pub parts_after : (b : Blocks) (new : Root) → ChangesFileParts a now b → HasFile file uuid b new → AreFileParts file uuid b new kept
   parts_after b new change file_now = record {
     now_file = file_now;
     kept_file = subst (λ (c : Blocks). HasFile file uuid c kept) (sym change.dropped) parts.kept_file;

@@ -57,7 +57,7 @@ pub record CoreWritten (a b : Blocks) (t : Root) : Type 0 where
   pub marked : (n : ℕ) → is_changed b n ≡ true → (is_changed a n ≡ true) ⊎ (n ≡ 0)
 
 -- a change of the tree with its core
-pub record ChangesParts (a : Blocks) (old : Root) (b : Blocks) : Type 0 where
+pub record ChangesFileParts (a : Blocks) (old : Root) (b : Blocks) : Type 0 where
   pub kept : b.kept ≡ a.kept
   pub dropped : all_dropped b ≡ all_dropped a
   pub marked : (n : ℕ) → is_changed b n ≡ true → (is_changed a n ≡ true) ⊎ (n ≡ 0) ⊎ Contains (blocks_of_tree mapping_form a old) n ⊎ (is_free a n ≡ true)

@@ -3,7 +3,7 @@ ghost use Rattle.std.specs.Prelude.{◌≡◌, ◌+◌, ◌^◌, ◌<◌, ◌≤
 ghost use Rattle.xr_base.specs.Address.{IsGoodRun};
 ghost use Rattle.xr_base.specs.declared.geometry.TheConstants.{FILES, OFFSETS};
 ghost use Rattle.xr_bmap.specs.Bmap.{PunchesIn, RemapsIn, slot_in};
-ghost use Rattle.xr_bmap.specs.Parts.{ChangesParts, CoreWritten, HasFile, HasOldCore, core_of};
+ghost use Rattle.xr_bmap.specs.Parts.{ChangesFileParts, CoreWritten, HasFile, HasOldCore, core_of};
 ghost use Rattle.xr_bmap.specs.Slots.{IsHole, IsMappedRun};
 
 use crate::bmap::Bmap;
@@ -58,7 +58,7 @@ pub(crate) fn map_in(
     requires hole { IsHole (slot_in over.old bmap.old) off run.now.len }
     ensures file { HasFile number.0 uuid.now over.new bmap.new.tree }
     ensures mapped { RemapsIn off run.now.len run.now.start over.old bmap.old over.new bmap.new }
-    ensures change { ChangesParts over.old bmap.old.tree over.new }
+    ensures change { ChangesFileParts over.old bmap.old.tree over.new }
 {
     let before = core_of(over, bmap, number, uuid);
     bmap.map(over, off, run);
@@ -80,7 +80,7 @@ pub(crate) fn unmap_in(
     requires mapped { IsMappedRun (slot_in over.old bmap.old) off len }
     ensures file { HasFile number.0 uuid.now over.new bmap.new.tree }
     ensures unmapped { PunchesIn off len over.old bmap.old over.new bmap.new }
-    ensures change { ChangesParts over.old bmap.old.tree over.new }
+    ensures change { ChangesFileParts over.old bmap.old.tree over.new }
 {
     let before = core_of(over, bmap, number, uuid);
     bmap.unmap(over, off, len);

@@ -1,13 +1,15 @@
 -- Where the premise on torn records holds by itself.
 use Rattle.std.proofs.Common.{◌≡◌, ◌⊎◌, ◌∙◌, ℕ, ◌+◌, ◌≤◌, List, [], ◌∷◌, ◌++◌, length, take, drop, sym, ap, subst, inl, inr, arith}
 use Rattle.std.specs.Prelude.{Contains}
-use Rattle.std.proofs.lemmas.List.{append_assoc, drop-drop, length-drop, length-take, take-append-drop}
+use Rattle.std.proofs.lemmas.List.{append_assoc, drop-drop, length-drop, length-take, length-take-le, take-append-drop}
 use Rattle.std.proofs.lemmas.List.Elements.{Contains-push_cases}
 use Rattle.xr_base.specs.Image.{overlaid, part}
 use Rattle.xr_base.specs.ImageLaws.{length-overlaid, part-overlaid}
 use Rattle.xr_disk.specs.Crash.{Write}
+use Rattle.xr_commit.specs.LogRecords.{log_of}
+use Rattle.xr_commit.proofs.WholeRecordLemmas.{ends_within}
 use Rattle.xr_scan.specs.FalseRecords.{HasNoFalseRecord, own_sectors}
-use Rattle.xr_scan.specs.FalseRecordLaws.{DoneIsSound, RestIsSound, UndoneIsSound, write_over}
+use Rattle.xr_scan.specs.FalseRecordLaws.{DoneIsSound, OffLogIsSound, RestIsSound, UndoneIsSound, write_over}
 
 in_none : (w : Write) → Contains [] w → ⊥
 in_none w has = let h = has.1 in omega (arith, h)
@@ -43,3 +45,14 @@ done_is_sound at bytes image fits =
 
 pub undone_is_sound : UndoneIsSound
 undone_is_sound at bytes image fits = one_write image (write_over at bytes image) (inr (again at (length bytes) image fits))
+
+pub off_log_is_sound : OffLogIsSound
+off_log_is_sound c long off w r has stands into =
+    let log : length (log_of c.image) ≡ 2097152 = length-take-le 2097152 (drop 32768 c.image) (omega (arith, long, length-drop 32768 c.image)) in
+    let within = ends_within (log_of c.image) r log stands in
+    let begins = into.begins in
+    let ends = into.ends in
+    elim (off w has) [
+      | inl before ↦ absurd (omega (arith, before, ends))
+      | inr after ↦ absurd (omega (arith, after, begins, within))
+    ]

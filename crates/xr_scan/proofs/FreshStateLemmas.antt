@@ -16,6 +16,7 @@ use Rattle.xr_record.specs.Stream.{Between, Unmounting}
 use Rattle.xr_record.specs.declared.entry.Entry.TheVariants.{Unmount}
 use Rattle.xr_commit.specs.Chain.{IsClear}
 use Rattle.xr_commit.specs.Entries.{HasEntries}
+use Rattle.xr_commit.specs.LiveStream.{IsLiveIn}
 use Rattle.xr_commit.specs.LogRecords.{IsHead, LogRecord, StandsAt, log_of}
 use Rattle.xr_commit.specs.Operations.{HoldsOperations, KeepsUnmounts}
 use Rattle.xr_commit.proofs.OneRecordLemmas.{one_record}
@@ -34,7 +35,7 @@ alone : (uuid : List ℕ) (cycle : ℕ) → KeepsUnmounts (unmount_record uuid c
 unfolding unmount_body raw_operation
 alone uuid cycle holds = record { one = refl; own_tail = refl }
 
-streams : IsStream unmount_body (Unmounting ∷ []) Between []
+pub streams : IsStream unmount_body (Unmounting ∷ []) Between []
 unfolding unmount_body raw_operation
 streams = record {
   whole = refl;
@@ -70,8 +71,9 @@ newest uuid cycle long some small =
       ];
     }
 
-pub fresh_is_live : FreshIsLive
-fresh_is_live uuid cycle long some small =
+live : (uuid : List ℕ) (cycle : ℕ) → length uuid ≡ UUID_BYTES → 0 < cycle → cycle < CYCLES
+    → IsLiveIn uuid (log_of (fresh_image uuid cycle)) (unmount_head uuid cycle ∷ []) (Unmount ∷ [])
+live uuid cycle long some small =
     let r = unmount_record uuid cycle in
     record {
       head = r;
@@ -86,6 +88,10 @@ fresh_is_live uuid cycle long some small =
       items = refl;
     }
 
+pub fresh_is_live : FreshIsLive
+unfolding live unmount_body
+fresh_is_live uuid cycle long some small = (live uuid cycle long some small, refl)
+
 within : (block : ℕ) → IsCoreBlock block ⊎ IsBufferBlock block → block < BLOCKS
 within block (inl core) = let h = core.last in omega (arith, h)
 within block (inr (inl pool)) = let h = pool.last in omega (arith, h)
@@ -96,7 +102,7 @@ fresh_holds uuid cycle long some small = record {
   superblock = record { whole = long; block = block_of-fresh_image uuid cycle 0 (omega arith) ∙ fresh_block_of-super uuid cycle };
   heads = unmount_head uuid cycle ∷ [];
   entries = Unmount ∷ [];
-  live_in = fresh_is_live uuid cycle long some small;
+  live_in = live uuid cycle long some small;
   logged = [];
   log_all = refl;
   blocks = λ block has. sym (block_of-fresh_image uuid cycle block (within block has));

@@ -1,6 +1,7 @@
 pub mod BadStreamLemmas
 pub mod BlockRunLemmas
 pub mod ChainRefusalLemmas
+pub mod CleanLemmas
 pub mod FalseRecordLemmas
 pub mod FirstBadLemmas
 pub mod FirstPartLemmas
@@ -8,6 +9,7 @@ pub mod FreshLogLemmas
 pub mod FreshRecordLemmas
 pub mod FreshStateLemmas
 pub mod LoggedLemmas
+pub mod NumberedLemmas
 pub mod PendingOrderLemmas
 pub mod PlacedLemmas
 pub mod RefusalLemmas

@@ -17,7 +17,7 @@ use Rattle.xr_commit.proofs.OneRecordLemmas.{one_chain, one_head}
 use Rattle.xr_scan.specs.LoggedEntries.{LogAll, logged_items}
 use Rattle.xr_scan.specs.Replayed.{replayed}
 use Rattle.xr_scan.specs.State.{works_of}
-use Rattle.xr_scan.specs.StateLaws.{IsOneState}
+use Rattle.xr_scan.specs.StateLaws.{IsOneState, SameIsHeld}
 use Rattle.xr_scan.proofs.LoggedLemmas.{one_logging}
 
 pub one_super : (image u v : List ℕ) → HasSuper image u → HasSuper image v → u ≡ v
@@ -47,3 +47,15 @@ one_state image one two a b =
       blocks = λ block has. a.blocks block has ∙ ap (replayed block (block_of image block)) logged ∙ sym (b.blocks block has);
       works = a.works ∙ ap (λ (ls : List Logged). works_of (pending (logged_items ls))) logged ∙ sym b.works;
     }
+
+pub same_is_held : SameIsHeld
+same_is_held image one two holds same = record {
+  superblock = subst (HasSuper image) same.uuid holds.superblock;
+  heads = holds.heads;
+  entries = holds.entries;
+  live_in = subst (λ (u : List ℕ). IsLiveIn u (log_of image) holds.heads holds.entries) same.uuid holds.live_in;
+  logged = holds.logged;
+  log_all = holds.log_all;
+  blocks = λ block has. sym (same.blocks block has) ∙ holds.blocks block has;
+  works = sym same.works ∙ holds.works;
+}

@@ -7,6 +7,7 @@ use Rattle.xr_record.specs.declared.entry.Entry.TheVariants.{Unmount}
 use Rattle.xr_record.specs.declared.head.Head.{Head}
 use Rattle.xr_commit.specs.LiveStream.{IsLiveIn}
 use Rattle.xr_commit.specs.LogRecords.{log_of}
+use Rattle.xr_scan.specs.Scanned.{IsCleanRecord}
 use Rattle.xr_scan.specs.State.{Holds, State}
 
 -- the header of a fresh log's one record, which is its own tail and has none before it
@@ -25,7 +26,7 @@ fresh_state uuid cycle = record { uuid = uuid; blocks = fresh_block_of uuid cycl
 
 abbrev pub FreshIsLive : Type 0
 FreshIsLive = (uuid : List ℕ) (cycle : ℕ) → length uuid ≡ UUID_BYTES → 0 < cycle → cycle < CYCLES
-    → IsLiveIn uuid (log_of (fresh_image uuid cycle)) (unmount_head uuid cycle ∷ []) (Unmount ∷ [])
+    → (live : IsLiveIn uuid (log_of (fresh_image uuid cycle)) (unmount_head uuid cycle ∷ []) (Unmount ∷ [])) × IsCleanRecord live.head
 
 abbrev pub FreshHoldsItsBlocks : Type 0
 FreshHoldsItsBlocks = (uuid : List ℕ) (cycle : ℕ) → length uuid ≡ UUID_BYTES → 0 < cycle → cycle < CYCLES → Holds (fresh_image uuid cycle) (fresh_state uuid cycle)

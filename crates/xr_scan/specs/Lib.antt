@@ -1,8 +1,13 @@
+pub mod CleanLaws
 pub mod FalseRecordLaws
 pub mod FalseRecords
 pub mod FreshStateLaws
+pub mod Layout
 pub mod LoggedEntries
 pub mod LoggedLaws
+pub mod NextId
+pub mod Numbered
+pub mod NumberedLaws
 pub mod RefusalLaws
 pub mod Replaying
 pub mod ReplayLaws

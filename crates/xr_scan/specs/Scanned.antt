@@ -1,10 +1,8 @@
 -- What a scan of an image finds.
-use Rattle.std.specs.Prelude.{◌≡◌, ◌≢◌, ◌↔◌, ℕ, zero, suc, ◌+◌, ◌*◌, ◌-◌, ◌/◌, ◌%◌, ◌<◌, ◌≤◌, max, nat_lt, true, false, if◌then◌else◌, List, [], ◌∷◌, get_or, length}
+use Rattle.std.specs.Prelude.{◌≡◌, ◌≢◌, ◌↔◌, ℕ, zero, suc, ◌+◌, ◌*◌, ◌-◌, ◌/◌, ◌%◌, ◌<◌, ◌≤◌, nat_lt, true, false, if◌then◌else◌, List, [], ◌∷◌, get_or, length}
 use Rattle.std.specs.List.{flat_map}
 use Rattle.xr_base.specs.Image.{block_of, part}
 use Rattle.xr_base.specs.declared.geometry.TheConstants.{BLOCK_BYTES, FILE_BLOCKS, FILES, FIRST_DATA_BLOCK, FIRST_FILE_BLOCK, FIRST_GROUP_BLOCK, GROUP_BLOCKS}
-use Rattle.xr_items.specs.declared.item.Item.{Item}
-use Rattle.xr_items.specs.declared.item.Item.TheVariants.{Buf, Inode, Begin, Done}
 use Rattle.xr_record.specs.declared.entry.Entry.{Entry}
 use Rattle.xr_record.specs.declared.head.Head.{Head}
 use Rattle.xr_record.specs.Operations.{operation_bytes}
@@ -17,6 +15,7 @@ use Rattle.xr_scan.specs.declared.scanned.Scanned.{Scanned}
 use Rattle.xr_scan.specs.declared.layout.TheConstants.{MOST_PENDING}
 use Rattle.xr_scan.specs.LoggedEntries.{LogAll, logged_items}
 use Rattle.xr_scan.specs.Replayed.{is_logged, replayed}
+use Rattle.xr_scan.specs.NextId.{next_id}
 use Rattle.xr_scan.specs.State.{HasBlock, State, works_of}
 
 -- the number of a block among those of a state: the files' blocks come first, and then the groups'
@@ -44,14 +43,6 @@ blocks_from state first (suc n) = state.blocks first ∷ blocks_from state (suc 
 
 abbrev pub bytes_from : State → ℕ → ℕ → List ℕ
 bytes_from state first n = flat_map (λ (block : List ℕ). block) (blocks_from state first n)
-
--- one more than the greatest id that an item names, intents and done items alike, or 1
-abbrev pub next_id : List Item → ℕ
-next_id [] = 1
-next_id (Begin id work ∷ items) = max (id + 1) (next_id items)
-next_id (Done id of ∷ items) = max (id + 1) (next_id items)
-next_id (Buf sector ∷ items) = next_id items
-next_id (Inode ino ∷ items) = next_id items
 
 -- the record marks a clean unmount
 abbrev pub IsCleanRecord : LogRecord → Type 0

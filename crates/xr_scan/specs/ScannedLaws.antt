@@ -1,7 +1,8 @@
 -- What was found of an image is what it holds, and no image is both scanned and refused.
-use Rattle.std.specs.Prelude.{ℕ, List}
+use Rattle.std.specs.Prelude.{ℕ, ◌<◌, List, length}
 use Rattle.xr_scan.specs.Scanned.{HasTooMany, IsScanned, scanned_state}
-use Rattle.xr_scan.specs.State.{Holds}
+use Rattle.xr_scan.specs.State.{Holds, State}
+use Rattle.xr_scan.specs.declared.layout.TheConstants.{MOST_PENDING}
 use Rattle.xr_scan.specs.declared.scanned.Scanned.{Scanned}
 
 abbrev pub ScannedHolds : Type 0
@@ -9,3 +10,7 @@ ScannedHolds = (image : List ℕ) (scanned : Scanned) → IsScanned image scanne
 
 abbrev pub ScannedHasFew : Type 0
 ScannedHasFew = (image : List ℕ) (scanned : Scanned) → IsScanned image scanned → HasTooMany image → ⊥
+
+-- and where it is refused for that, so many works are in the state that the image holds
+abbrev pub TooManyAreHeld : Type 0
+TooManyAreHeld = (image : List ℕ) (state : State) → Holds image state → HasTooMany image → MOST_PENDING < length state.works

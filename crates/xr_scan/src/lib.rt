@@ -8,8 +8,9 @@ mod replay;
 mod scanned;
 
 pub use laws::{
-    fresh_images_hold_their_blocks, images_hold_one_state, live_records_are_placed,
-    live_streams_log_items, refusals_are_exact, replays_go_on, scans_tell_states,
-    whole_writes_make_no_false_record,
+    clean_images_hold_their_blocks, fresh_images_hold_their_blocks, images_hold_one_state,
+    live_records_are_placed, live_streams_log_items, refusals_are_exact, replays_go_on,
+    scans_tell_states, whole_writes_make_no_false_record,
 };
+pub use layout::layout_is_fixed;
 pub use scanned::Scanned;

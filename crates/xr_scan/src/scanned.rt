@@ -1,5 +1,9 @@
 //! What a scan of an image finds: where its live stream ends, the pending works, and the blocks as the stream leaves them.
 ghost use Rattle.std.specs.Prelude.{◌≡◌, ◌≤◌, vec_len};
+ghost use Rattle.std.specs.Coded.{Coded-set};
+ghost use Rattle.xr_scan.specs.LoggedLaws.{IsPlacedHead};
+ghost use Rattle.xr_scan.specs.Numbered.{AreNumbered};
+ghost use Rattle.xr_scan.specs.NumberedLaws.{AreNumbered-prop};
 ghost use Rattle.xr_scan.specs.declared.layout.TheConstants.{MOST_PENDING, STATE_BLOCKS, STATE_BYTES};
 
 use uuid::Uuid;
@@ -30,4 +34,7 @@ pub struct Scanned {
     ghost whole: { vec_len blocks ≡ STATE_BYTES },
     ghost each: { vec_len dirty ≡ STATE_BLOCKS },
     ghost few: { vec_len pending ≤ MOST_PENDING },
+    ghost newest: { head ≡ last.lsn } by { Coded-set head-code head last.lsn },
+    ghost placed: { IsPlacedHead last },
+    ghost numbered: { AreNumbered next pending.items } by { AreNumbered-prop next pending.items },
 }

@@ -1,4 +1,5 @@
 use Rattle.xr_scan.proofs.LoggedLemmas.{live_logs_items, logged_are_good, one_logging}
+use Rattle.xr_scan.proofs.NumberedLemmas.{next_is_above}
 use Rattle.xr_scan.proofs.PendingOrderLemmas.{pending_rise}
 use Rattle.xr_scan.proofs.laws.live_streams_log_items.Goals as goal
 
@@ -13,3 +14,6 @@ returns-clause-good c = logged_are_good
 
 pub returns-clause-rise : goal.returns-clause-rise
 returns-clause-rise c = pending_rise
+
+pub returns-clause-next : goal.returns-clause-next
+returns-clause-next c = next_is_above
