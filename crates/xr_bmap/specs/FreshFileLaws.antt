@@ -9,8 +9,8 @@ use Rattle.xr_block.specs.Trees.{blocks_of_tree, records_of_tree}
 use Rattle.xr_block.specs.declared.root.Root.{Root}
 use Rattle.xr_bmap.specs.File.{core_of_blocks, extents_in, first_of_file, pool_of_blocks, root_of_blocks, root_of_core}
 use Rattle.xr_bmap.specs.FreshFile.{AreFreshFileBlocks, FreshFilesAreEmpty, IsEmptyFile}
-use Rattle.xr_bmap.specs.LeafTreeLaws.{fresh_roots_are_leaves, leaf_roots_are_trees}
-use Rattle.xr_bmap.specs.LeafTrees.{IsLeafRoot, IsLeafTree, leaf_root}
+use Rattle.xr_open.specs.LeafTreeLaws.{fresh_roots_are_leaves, leaf_roots_are_trees}
+use Rattle.xr_open.specs.LeafTrees.{IsLeafRoot, IsLeafTree, leaf_root}
 use Rattle.xr_bmap.specs.Slots.{mapped_in}
 use Rattle.xr_headers.specs.FreshImage.{fresh_block_of, fresh_core, fresh_file_block, long_leaf}
 use Rattle.xr_headers.specs.HeaderValueLaws.{core_in-core_block}

@@ -5,8 +5,6 @@ pub mod File
 pub mod FreshFile
 pub mod FreshFileLaws
 pub mod Joins
-pub mod LeafTreeLaws
-pub mod LeafTrees
 pub mod OpenFile
 pub mod Opening
 pub mod Parts

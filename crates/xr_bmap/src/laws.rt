@@ -1,19 +1,11 @@
 //! What is so of files by their blocks alone: which extents they have, and what a fresh one maps.
 ghost use Rattle.xr_bmap.specs.ExtentLists.{ExtentsFollowFromMap};
 ghost use Rattle.xr_bmap.specs.FreshFile.{FreshFilesAreEmpty};
-ghost use Rattle.xr_bmap.specs.LeafTrees.{FreshRootsAreLeaves, LeafRootsAreTrees};
 ghost use Rattle.xr_bmap.specs.Pieces.{PiecesSayWhatIsThere};
-ghost use Rattle.xr_kinds.specs.Mapping.{mapping_form};
 
 /// The extents of a file are the longest runs of its map, in their order.
 pub fn extents_follow_from_map()
     ensures { ExtentsFollowFromMap }
-{}
-
-/// A leaf that is a root is a tree of its records. The one block of a fresh file's tree is such a leaf, with no records.
-pub fn leaves_are_trees()
-    ensures trees { LeafRootsAreTrees mapping_form }
-    ensures fresh { FreshRootsAreLeaves }
 {}
 
 /// The blocks of each file of a fresh image are a file that maps nothing.

@@ -13,8 +13,6 @@ mod piece;
 mod tests;
 
 pub use file::File;
-pub use laws::{
-    extents_follow_from_map, fresh_files_are_empty, leaves_are_trees, pieces_say_what_is_there,
-};
+pub use laws::{extents_follow_from_map, fresh_files_are_empty, pieces_say_what_is_there};
 pub use piece::Piece;
 pub use xr_open::OpenFault;

@@ -2,8 +2,11 @@ pub mod AddressLemmas
 pub mod CallLemmas
 pub mod CountLemmas
 pub mod FreeLemmas
+pub mod FreeListLemmas
 pub mod GroupPoolLemmas
 pub mod HeadLemmas
+pub mod ListLemmas
+pub mod NextLemmas
 pub mod OpenLemmas
 pub mod OpenTreeLemmas
 pub mod PartLemmas

@@ -1,6 +1,12 @@
+pub mod FreshGroup
+pub mod FreshGroupLaws
+pub mod FreshLeafLaws
 pub mod Group
+pub mod Next
 pub mod OpenGroup
 pub mod Opening
 pub mod Parts
+pub mod Probes
+pub mod RecordLists
 pub mod Sets
 pub mod Trees

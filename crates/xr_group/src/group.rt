@@ -3,17 +3,20 @@ ghost use Rattle.std.specs.Prelude.{◌≡◌, ◌*◌, ◌+◌, ◌<◌, ◌≤
 ghost use Rattle.std.specs.Prelude.{false, IsTrue, length, slice_index, slice_index_or, vec_len, IfErr, IfOk, IfSome, IsNone, []};
 ghost use Rattle.xr_base.specs.declared.geometry.TheConstants.{BLOCK_BYTES, FIRST_DATA_BLOCK, GROUPS};
 ghost use Rattle.xr_group.specs.Group.{AreGroups, ChangesGroup, IsGroup, IsRunOf, dropped_to_kept, first_of_group, kept_now, records_now};
+ghost use Rattle.xr_group.specs.Next.{IsCountedBefore, IsNextOf, IsShorter, StartsBefore, counteds_now, frees_now, revs_now, sizes_now};
 ghost use Rattle.xr_group.specs.OpenGroup.{RefusesGroup, opened_group};
 ghost use Rattle.xr_group.specs.Sets.{AddsPairs, AreCountedIn, AreOwnedAlikeIn, AreStagedIn, HasNoPairOf, HasPairsOf};
 ghost use Rattle.xr_group.specs.Sets.{GivesFree, HasNoFreeOf, IsFirstFree, IsFirstPart, IsPaired, LowersCounts, RaisesCounts, RemovesPairs};
 ghost use Rattle.xr_group.specs.Sets.{StagesAddresses, TakesFree, UnstagesAddresses, has_free, owner_count_in, group_span};
 ghost use Rattle.xr_group.specs.Trees.{counts_part, free_part, owners_part};
 ghost use Rattle.xr_kinds.specs.Reverse.{is_good_owner, reverse_form};
+ghost use Rattle.xr_maps.specs.Records.{IsBefore};
 ghost use Rattle.xr_pool.specs.Overlay.{blocks_in};
 ghost use Rattle.xr_rmap.specs.Rmap.{owned_run};
 
 use crate::changes::{add_in, remove_in};
 use crate::counts::{first_equal_in, lower_in, raise_in, stage_in, unstage_in};
+use crate::next::{next_count_in, next_free_in, next_owner_in, next_size_in};
 use crate::open::{open_head, open_trees};
 use crate::runs::group_span;
 use crate::space::{give_in, take_run};
@@ -22,7 +25,7 @@ use std::alloc::Global;
 use std::marker::Model;
 use uuid::Uuid;
 use xr_base::{GroupNo, Run};
-use xr_maps::Counted;
+use xr_maps::{Counted, Rev};
 use xr_open::OpenFault;
 use xr_pool::Overlay;
 use xr_refcount::Lowered;
@@ -186,6 +189,35 @@ impl Group {
         ensures change { ChangesGroup free_part 36 self.old self.new }
     {
         give_in(&mut self.over, &mut self.trees, group_span(run));
+    }
+
+    /// The first free run after another, by their blocks, or the first of all. The other need not be there, nor be a run of
+    /// this group.
+    pub fn next_free(&self, after: Option<Run>) -> Option<Run>
+        ensures { IsNextOf StartsBefore (frees_now self.now) after result }
+    {
+        next_free_in(&self.over, &self.trees, after)
+    }
+
+    /// The first free run after another, by their lengths and then their blocks, or the first of all.
+    pub fn next_size(&self, after: Option<Run>) -> Option<Run>
+        ensures { IsNextOf IsShorter (sizes_now self.now) after result }
+    {
+        next_size_in(&self.over, &self.trees, after)
+    }
+
+    /// The first record of owners after another, by its block, its owner and its offset, or the first of all.
+    pub fn next_owner(&self, after: Option<Rev>) -> Option<Rev>
+        ensures { IsNextOf IsBefore (revs_now self.now) after result }
+    {
+        next_owner_in(&self.over, &self.trees, after)
+    }
+
+    /// The first record of counts after another, by their blocks and the staged ones behind all others, or the first of all.
+    pub fn next_count(&self, after: Option<Counted>) -> Option<Counted>
+        ensures { IsNextOf IsCountedBefore (counteds_now self.now) after result }
+    {
+        next_count_in(&self.over, &self.trees, after)
     }
 
     /// How many records the owners make.

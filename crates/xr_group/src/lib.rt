@@ -7,11 +7,14 @@ mod counts;
 mod group;
 mod head;
 mod laws;
+mod next;
 mod open;
 mod runs;
 mod space;
 mod trees;
 
 pub use group::Group;
-pub use laws::refused_are_no_groups;
+pub use laws::{
+    free_follow_from_maps, fresh_groups_are_free, owners_follow_from_maps, refused_are_no_groups,
+};
 pub use xr_open::OpenFault;

@@ -1,2 +1,4 @@
+pub mod LeafTreeLaws
+pub mod LeafTrees
 pub mod Marked
 pub mod MarkedLaws

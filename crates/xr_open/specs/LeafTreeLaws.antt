@@ -1,23 +1,23 @@
 -- A leaf that is a root is a tree by itself, and formatting writes such leaves.
-use Rattle.std.proofs.Common.{◌≡◌, ℕ, suc, ◌+◌, ◌-◌, ◌≤◌, List, [], ◌++◌, length, take, drop, replicate, refl, sym, ap, subst, ◌∙◌, arith}
+use Rattle.std.proofs.Common.{◌≡◌, ℕ, suc, ◌+◌, ◌-◌, ◌*◌, ◌≤◌, List, [], ◌∷◌, ◌++◌, length, take, drop, replicate, refl, sym, ap, subst, ◌∙◌, arith}
 use Rattle.std.proofs.lemmas.List.{append-nil, append_assoc, length-append}
 use Rattle.std.proofs.lemmas.List.Elements.{All-cons, All-nil}
 use Rattle.byteorder.specs.Endian.{little_bytes}
 use Rattle.xr_base.specs.Checksum.{checksum_of, without_four}
 use Rattle.xr_base.specs.declared.geometry.TheConstants.{BLOCK_BYTES, UUID_BYTES}
 use Rattle.xr_base.specs.declared.layout.TheConstants.{LONG_BB_CRC}
-use Rattle.xr_block.specs.BlockLaws.{records_of_leaf}
+use Rattle.xr_block.specs.BlockLaws.{length-header, records_of_leaf}
 use Rattle.xr_block.specs.CheckLaws.{length-sum}
 use Rattle.xr_block.specs.Rows.{AreLinked, AreRowsOf, leaves_from, rows_from}
-use Rattle.xr_block.specs.Tree.{AreRecords, IsUsed, site_of}
+use Rattle.xr_block.specs.Tree.{AreRecords, IsUsed, site_of, tree_held}
 use Rattle.xr_block.specs.TreeBlock.{Site, header, leaf_bytes, tree_block}
 use Rattle.xr_block.specs.TreeBlock as tree
-use Rattle.xr_headers.specs.FreshImage.{long_leaf_fields}
+use Rattle.xr_headers.specs.FreshImage.{long_leaf, long_leaf_fields}
 use Rattle.xr_headers.specs.Padded.{with_crc, zero_padded}
 use Rattle.xr_headers.specs.PaddedLaws.{zero_padded_is}
 use Rattle.xr_kinds.specs.Form.{Form, IsForm}
 use Rattle.xr_kinds.specs.Mapping.{mapping_form}
-use Rattle.xr_bmap.specs.LeafTrees.{FreshRootsAreLeaves, IsLeafRoot, IsLeafTree, LeafRootsAreTrees, lone_place}
+use Rattle.xr_open.specs.LeafTrees.{FreshRootsAreLeaves, IsLeafRoot, IsLeafTree, LeafRootsAreTrees, leaf_root, lone_place}
 use Rattle.xr_pool.specs.Overlay.{Blocks, block_at, is_free, pool_size}
 
 module _ {X : Type 0} (form : Form X) (laws : IsForm form) (b : Blocks) (n : ℕ) (records : List X) (leaf : IsLeafRoot form b n records) where
@@ -52,10 +52,10 @@ pub leaf_roots_are_trees : {X : Type 0} (form : Form X) → IsForm form → Leaf
 leaf_roots_are_trees form laws b n records leaf = leaf_tree form laws b n records leaf
 
 -- the two crates that write blocks say padding and checksums alike
-same_padding : (n : ℕ) (bytes : List ℕ) → length bytes ≤ n → zero_padded n bytes ≡ tree.zero_filled n bytes
+pub same_padding : (n : ℕ) (bytes : List ℕ) → length bytes ≤ n → zero_padded n bytes ≡ tree.zero_filled n bytes
 same_padding n bytes fits = zero_padded_is n (n - length bytes) bytes (omega arith)
 
-same_checksum : (at : ℕ) (bytes : List ℕ) → with_crc at bytes ≡ tree.with_crc at bytes
+pub same_checksum : (at : ℕ) (bytes : List ℕ) → with_crc at bytes ≡ tree.with_crc at bytes
 unfolding with_crc
 same_checksum at bytes =
     ap (λ (k : ℕ). take at bytes ++ little_bytes 4 (checksum_of (without_four at bytes)) ++ drop (at + k) bytes) (sym (length-sum at bytes))
