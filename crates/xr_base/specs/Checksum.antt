@@ -1,6 +1,8 @@
 -- CRC32C, a bit at a time: the remainder of a division of polynomials over two elements, with the lowest bit as the
 -- coefficient of the highest power.
 use Rattle.std.specs.Prelude.{ℕ, zero, suc, ◌+◌, ◌-◌, ◌*◌, ◌/◌, ◌%◌, ◌^◌, ◌==◌, if◌then◌else◌, List, [], ◌∷◌, ◌++◌, take, drop, bit_xor, replicate}
+use Rattle.byteorder.specs.Endian.{little_bytes}
+use Rattle.xr_base.specs.Image.{overlaid}
 
 -- the divisor without its highest power
 abbrev pub polynomial : ℕ
@@ -35,6 +37,14 @@ checksum_of bytes = bit_xor (after_bytes all_ones bytes) all_ones
 -- the bytes with the four from a place on taken as zero
 abbrev pub without_four : ℕ → List ℕ → List ℕ
 without_four at bytes = take at bytes ++ replicate 4 0 ++ drop (at + 4) bytes
+
+-- the four bytes of the checksum of all others, its lowest byte first
+abbrev pub sum_bytes : ℕ → List ℕ → List ℕ
+sum_bytes at bytes = little_bytes 4 (checksum_of (without_four at bytes))
+
+-- the bytes with their checksum among them
+unfoldable pub with_crc : ℕ → List ℕ → List ℕ
+with_crc at bytes = overlaid at (sum_bytes at bytes) bytes
 
 -- the number whose digits to the base 256 are the bytes, the lowest first
 abbrev pub le_number : List ℕ → ℕ

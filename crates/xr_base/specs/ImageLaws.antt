@@ -3,7 +3,7 @@ use Rattle.std.specs.Prelude.{◌≡◌, ◌≢◌, ℕ, zero, suc, ◌+◌, ◌
 use Rattle.std.proofs.Common.{◌∙◌, ◌-◌, ap, sym, arith, refl, ⊎_elim}
 use Rattle.std.proofs.lemmas.Grind.{common_steps}
 use Rattle.std.proofs.lemmas.Bool.{cases_lt}
-use Rattle.std.proofs.lemmas.List.{take_all, take-append-le, drop-append-le, take-append-drop, length-append, length-drop, length-take-le, drop-drop}
+use Rattle.std.proofs.lemmas.List.{take_all, take-append-le, drop-append-le, append_assoc, take-append-drop, length-append, length-drop, length-take-le, drop-drop}
 use Rattle.std.proofs.Math.Seq.{take-add, drop-append-add}
 use Rattle.xr_base.specs.declared.geometry.TheConstants.{BLOCK_BYTES}
 use Rattle.xr_base.specs.Image.{part, overlaid, block_of, blocks_below}
@@ -64,3 +64,25 @@ pub image_of_blocks : (block : ℕ → List ℕ) (n : ℕ) (image : List ℕ) �
     → image ≡ blocks_below block n
 image_of_blocks block n image long each =
     sym (take_all (BLOCK_BYTES * n) image (omega arith)) ∙ front_of_blocks block n image (omega arith) each
+
+-- what stands after bytes that were laid over
+pub drop_overlaid : (at k : ℕ) (bytes image : List ℕ) → at + length bytes ≤ k → at + length bytes ≤ length image
+    → drop k (overlaid at bytes image) ≡ drop k image
+drop_overlaid at k bytes image after fits =
+    let front : List ℕ = take at image ++ bytes in
+    let long : length front ≡ at + length bytes = length-append (take at image) bytes ∙ omega (arith, length-take-le at image (omega arith)) in
+    let j : ℕ = k - (at + length bytes) in
+    let place : k ≡ length front + j = omega arith in
+    ap (λ (m : ℕ). drop m (overlaid at bytes image)) place
+    ∙ drop-append-add front (drop (at + length bytes) image) j
+    ∙ drop-drop j (at + length bytes) image
+    ∙ ap (λ (m : ℕ). drop m image) (let e : at + length bytes + j ≡ k = omega arith in e)
+
+-- what stands at a place, laid over it again
+pub laid_again : (at n : ℕ) (bytes : List ℕ) → at + n ≤ length bytes → overlaid at (part at n bytes) bytes ≡ bytes
+laid_again at n bytes fits =
+    let long : length (part at n bytes) ≡ n = length-take-le n (drop at bytes) (omega (arith, length-drop at bytes)) in
+    append_assoc (take at bytes) (part at n bytes) (drop (at + length (part at n bytes)) bytes)
+    ∙ ap (λ (k : ℕ). take at bytes ++ (part at n bytes ++ drop (at + k) bytes)) long
+    ∙ ap (λ (xs : List ℕ). take at bytes ++ (part at n bytes ++ xs)) (sym (drop-drop n at bytes))
+    ∙ ap (λ (xs : List ℕ). take at bytes ++ xs) (take-append-drop n (drop at bytes)) ∙ take-append-drop at bytes

@@ -5,13 +5,14 @@ use Rattle.std.proofs.lemmas.List.{append_assoc, drop_at, drop-append-le, drop-d
 use Rattle.byteorder.specs.Endian.{big_bytes}
 use Rattle.xr_base.specs.Image.{overlaid}
 use Rattle.xr_base.specs.declared.geometry.TheConstants.{BLOCK_BYTES}
-use Rattle.xr_block.specs.BlockLaws.{drop_overlaid, fields_fill, length-header, length-sibling}
+use Rattle.xr_block.specs.BlockLaws.{fields_fill, length-header, length-sibling}
 use Rattle.xr_kinds.specs.Form.{Form, header_size, pointer_size}
 use Rattle.xr_block.specs.TreeBlock.{Place, Site, zero_filled, header, sibling, crc_place, tree_block}
 use Rattle.xr_block.specs.CheckLaws.{block_laid, front, laid, laid_after, laid_block, laid_front, rest_of, IsHeaderLaid}
 use Rattle.xr_block.specs.Edits.{IsHeader, sealed, with_left}
-use Rattle.xr_block.specs.SealLaws.{drop_summed, take_summed}
+use Rattle.xr_base.specs.ChecksumLaws.{drop-with_crc, take-with_crc}
 use Rattle.xr_block.specs.declared.header.Header.{Header}
+use Rattle.xr_base.specs.ImageLaws.{drop_overlaid}
 
 -- bytes of the same length over some that stand at a place
 laid_over : (at : ℕ) (before old new after : List ℕ) → length before ≡ at → length new ≡ length old
@@ -83,8 +84,8 @@ module _ {X : Type 0} (form : Form X) (site : Site) (identified : length site.uu
       let sp : ℕ = crc_place form in
       let whole = block_laid form site place count items (sealed form bytes) (omega (arith, length-laid place count items)) is in
       record {
-        before = sym (take_summed sp bytes (omega (arith, fill, long))) ∙ whole.before;
-        after = sym (drop_summed sp (sp + 4) bytes (omega arith) (omega (arith, fill, long))) ∙ whole.after;
+        before = sym (take-with_crc sp bytes (omega (arith, fill, long))) ∙ whole.before;
+        after = sym (drop-with_crc sp (sp + 4) bytes (omega arith) (omega (arith, fill, long))) ∙ whole.after;
       }
 
   items_laid : (place : Place) (count : ℕ) (items next bytes area : List ℕ) → length bytes ≡ BLOCK_BYTES → IsHeaderLaid form site place count items bytes

@@ -2,7 +2,6 @@ pub mod KeyLemmas
 pub mod LaidBlockLemmas
 pub mod LeafBuildLemmas
 pub mod LeafEditLemmas
-pub mod LeafLemmas
 pub mod NodeBuildLemmas
 pub mod NodeEditLemmas
 pub mod SearchLemmas

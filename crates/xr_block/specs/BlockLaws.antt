@@ -1,18 +1,18 @@
 -- What is read back from the blocks of a tree is what was written to them.
 use Rattle.std.proofs.Common.{◌≡◌, ℕ, suc, ◌+◌, ◌-◌, ◌*◌, ◌^◌, ◌<◌, ◌≤◌, Bool, true, false, if◌then◌else◌, Option, Some, None, List, [], ◌∷◌, ◌++◌, length, take, drop, replicate, refl, sym, ap, ◌∙◌, arith}
 use Rattle.std.proofs.Math.Nat.{mul-le-mul_right}
-use Rattle.std.proofs.Math.Seq.{drop-append-add}
-use Rattle.std.proofs.lemmas.List.{append_assoc, drop_at, drop-drop, length-append, length-replicate, length-take-le, take_at}
+use Rattle.std.proofs.lemmas.List.{append_assoc, drop_at, length-append, length-replicate, take_at}
 use Rattle.std.specs.List.{All, flat_map}
-use Rattle.byteorder.specs.Endian.{big_bytes, big_number, little_bytes}
+use Rattle.byteorder.specs.Endian.{big_bytes, big_number}
 use Rattle.byteorder.specs.Numbers.{big_from-take, big_number-reads_back, length-bytes_high_first}
-use Rattle.xr_base.specs.Checksum.{checksum_of, without_four}
-use Rattle.xr_base.specs.Image.{overlaid, part}
-use Rattle.xr_base.specs.ImageLaws.{length-overlaid, part_below}
+use Rattle.xr_base.specs.Checksum.{with_crc, sum_bytes}
+use Rattle.xr_base.specs.Image.{part}
+use Rattle.xr_base.specs.ImageLaws.{length-overlaid, part_below, drop_overlaid}
 use Rattle.xr_base.specs.declared.geometry.TheConstants.{BLOCK_BYTES}
 use Rattle.xr_kinds.specs.BigEndianLaws.{drop-bytes, reads_alone}
 use Rattle.xr_kinds.specs.Form.{Form, IsForm, header_size, key_size, pointer_size}
-use Rattle.xr_block.specs.TreeBlock.{Entry, Place, Site, count_in, entries_from, entries_in, zero_filled, header, leaf_bytes, sibling, node_bytes, node_items, records_from, records_in, crc_place, with_crc, tree_block}
+use Rattle.xr_block.specs.TreeBlock.{Entry, Place, Site, count_in, entries_from, entries_in, zero_filled, header, leaf_bytes, sibling, node_bytes, node_items, records_from, records_in, crc_place, tree_block}
+use Rattle.xr_base.specs.ChecksumLaws.{with_crc_same}
 
 -- the fields of a header fill it, with the checksum and what is after it
 pub fields_fill : (long : Bool) → (let pointer : ℕ = if long then 8 else 4 in let size : ℕ = if long then 72 else 56 in let sum : ℕ = if long then 64 else 52 in
@@ -43,19 +43,6 @@ length-header form site place count whole =
 pub length-zero_filled : (n : ℕ) (bytes : List ℕ) → length bytes ≤ n → length (zero_filled n bytes) ≡ n
 length-zero_filled n bytes fits = length-append bytes (replicate (n - length bytes) 0) ∙ omega (arith, length-replicate {A = ℕ} (n - length bytes) 0)
 
--- what stands after bytes that were laid over
-pub drop_overlaid : (at k : ℕ) (bytes image : List ℕ) → at + length bytes ≤ k → at + length bytes ≤ length image
-    → drop k (overlaid at bytes image) ≡ drop k image
-drop_overlaid at k bytes image after fits =
-    let front : List ℕ = take at image ++ bytes in
-    let long : length front ≡ at + length bytes = length-append (take at image) bytes ∙ omega (arith, length-take-le at image (omega arith)) in
-    let j : ℕ = k - (at + length bytes) in
-    let place : k ≡ length front + j = omega arith in
-    ap (λ (m : ℕ). drop m (overlaid at bytes image)) place
-    ∙ drop-append-add front (drop (at + length bytes) image) j
-    ∙ drop-drop j (at + length bytes) image
-    ∙ ap (λ (m : ℕ). drop m image) (let e : at + length bytes + j ≡ k = omega arith in e)
-
 module _ {X : Type 0} (form : Form X) (site : Site) (place : Place) (count : ℕ) (items : List ℕ) (whole : length site.uuid ≡ 16) (room : header_size form + length items ≤ BLOCK_BYTES) where
   fields : List ℕ
   fields = header form site place count ++ items
@@ -65,39 +52,35 @@ module _ {X : Type 0} (form : Form X) (site : Site) (place : Place) (count : ℕ
   length-fields = omega (arith, length-append (header form site place count) items, length-header form site place count whole)
 
   pub length-tree_block : length (tree_block form site place count items) ≡ BLOCK_BYTES
-  unfolding tree_block fields
+  unfolding tree_block with_crc fields
   length-tree_block =
       let fill = fields_fill form.long in
       let long = length-zero_filled BLOCK_BYTES fields length-fields in
-      let sum : List ℕ = little_bytes 4 (checksum_of (without_four (crc_place form) (zero_filled BLOCK_BYTES fields))) in
+      let sum : List ℕ = sum_bytes (crc_place form) (zero_filled BLOCK_BYTES fields) in
       length-overlaid (crc_place form) sum (zero_filled BLOCK_BYTES fields) (omega (arith, fill, long)) ∙ long
 
   -- the items stand after the header
   pub items_in_block : drop (header_size form) (tree_block form site place count items) ≡ items ++ replicate (BLOCK_BYTES - length (header form site place count ++ items)) 0
-  unfolding tree_block fields
+  unfolding tree_block with_crc fields
   items_in_block =
       let fill = fields_fill form.long in
       let long = length-zero_filled BLOCK_BYTES fields length-fields in
-      let sum : List ℕ = little_bytes 4 (checksum_of (without_four (crc_place form) (zero_filled BLOCK_BYTES fields))) in
+      let sum : List ℕ = sum_bytes (crc_place form) (zero_filled BLOCK_BYTES fields) in
       let zeros : List ℕ = replicate (BLOCK_BYTES - length fields) 0 in
       drop_overlaid (crc_place form) (header_size form) sum (zero_filled BLOCK_BYTES fields) (omega (arith, fill)) (omega (arith, fill, long))
       ∙ ap (drop (header_size form)) (append_assoc (header form site place count) items zeros)
       ∙ drop_at (header form site place count) (items ++ zeros) (header_size form) (length-header form site place count whole)
 
   pub count_in_block : count < 2 ^ 16 → count_in (tree_block form site place count items) ≡ count
-  unfolding tree_block fields header
+  unfolding tree_block with_crc fields header
   count_in_block small =
       let fill = fields_fill form.long in
       let long = length-zero_filled BLOCK_BYTES fields length-fields in
-      let sum : List ℕ = little_bytes 4 (checksum_of (without_four (crc_place form) (zero_filled BLOCK_BYTES fields))) in
+      let sum : List ℕ = sum_bytes (crc_place form) (zero_filled BLOCK_BYTES fields) in
       let field : part 6 2 (tree_block form site place count items) ≡ big_bytes 2 count =
       part_below (crc_place form) 2 6 sum (zero_filled BLOCK_BYTES fields) (omega (arith, fill)) (omega (arith, fill, long)) in
       sym (big_from-take 0 2 2 (drop 6 (tree_block form site place count items)) (omega arith))
       ∙ ap (big_number 2) field ∙ reads_alone 2 count small
-
--- a sum stands over all bytes but its own
-pub summed_same : (at : ℕ) (xs ys : List ℕ) → take at xs ≡ take at ys → drop (at + 4) xs ≡ drop (at + 4) ys → with_crc at xs ≡ with_crc at ys
-summed_same at xs ys front after = rw (front, after) refl
 
 -- bytes with the right sum are a tree's block where they are its fields, items and zeros beside the sum
 pub block_is : {X : Type 0} (form : Form X) (site : Site) (place : Place) (count : ℕ) (items bytes : List ℕ) → bytes ≡ with_crc (crc_place form) bytes
@@ -106,7 +89,7 @@ pub block_is : {X : Type 0} (form : Form X) (site : Site) (place : Place) (count
     → bytes ≡ tree_block form site place count items
 unfolding tree_block
 block_is form site place count items bytes sum same =
-    sum ∙ summed_same (crc_place form) bytes (zero_filled BLOCK_BYTES (header form site place count ++ items)) same.0 same.1
+    sum ∙ with_crc_same (crc_place form) bytes (zero_filled BLOCK_BYTES (header form site place count ++ items)) same.0 same.1
 
 -- records are read back one after the other
 pub records_back : {X : Type 0} (form : Form X) (laws : IsForm form) (records : List X) (rest : List ℕ) → All (λ (r : X). form.is_valid r ≡ true) records

@@ -4,40 +4,18 @@ use Rattle.std.specs.Bool.{⊤}
 use Rattle.std.proofs.Math.Seq.{take-add}
 use Rattle.std.proofs.lemmas.List.{append_assoc, drop_at, drop-drop, drop-take, length-append, length-drop, length-replicate, length-take-le, take-append-drop, take_at, take-take}
 use Rattle.std.proofs.lemmas.Bool.{eq-eqb, eqb-true}
-use Rattle.byteorder.specs.Endian.{big_bytes, big_number, little_bytes}
-use Rattle.byteorder.specs.Numbers.{big_from-take, length-bytes_high_first, length-bytes_low_first}
-use Rattle.xr_base.specs.Checksum.{checksum_of, without_four}
-use Rattle.xr_base.specs.Image.{overlaid, part}
-use Rattle.xr_base.specs.ImageLaws.{part-overlaid}
+use Rattle.byteorder.specs.Endian.{big_bytes, big_number}
+use Rattle.byteorder.specs.Numbers.{big_from-take, length-bytes_high_first}
+use Rattle.xr_base.specs.Checksum.{with_crc}
+use Rattle.xr_base.specs.Image.{part}
 use Rattle.xr_base.specs.declared.geometry.TheConstants.{BLOCK_BYTES}
 use Rattle.xr_kinds.specs.BigEndianLaws.{bytes_again, dropped_bytes, reads_alone, taken_bytes}
-use Rattle.xr_block.specs.BlockLaws.{block_is, drop_overlaid, fields_fill, length-zero_filled, length-header, length-sibling, summed_same}
+use Rattle.xr_block.specs.BlockLaws.{block_is, fields_fill, length-zero_filled, length-header, length-sibling}
 use Rattle.xr_block.specs.Checks.{HasHeader, left_in, sibling_in, place_in, right_in}
 use Rattle.xr_kinds.specs.Form.{Form, header_size, pointer_size}
 use Rattle.xr_base.specs.Fields.{AreBytes}
-use Rattle.xr_block.specs.TreeBlock.{Place, Site, count_in, zero_filled, header, sibling, crc_place, with_crc, tree_block}
-
--- what stands at a place, laid over it again
-laid_again : (at n : ℕ) (bytes : List ℕ) → at + n ≤ length bytes → overlaid at (part at n bytes) bytes ≡ bytes
-laid_again at n bytes fits =
-    let long : length (part at n bytes) ≡ n = length-take-le n (drop at bytes) (omega (arith, length-drop at bytes)) in
-    append_assoc (take at bytes) (part at n bytes) (drop (at + length (part at n bytes)) bytes)
-    ∙ ap (λ (k : ℕ). take at bytes ++ (part at n bytes ++ drop (at + k) bytes)) long
-    ∙ ap (λ (xs : List ℕ). take at bytes ++ (part at n bytes ++ xs)) (sym (drop-drop n at bytes))
-    ∙ ap (λ (xs : List ℕ). take at bytes ++ xs) (take-append-drop n (drop at bytes)) ∙ take-append-drop at bytes
-
-pub length-sum : (at : ℕ) (bytes : List ℕ) → length (little_bytes 4 (checksum_of (without_four at bytes))) ≡ 4
-length-sum at bytes = length-bytes_low_first 0 4 (checksum_of (without_four at bytes))
-
--- the checksum is right where its four bytes are those of all others
-pub summed_from : (at : ℕ) (bytes sum : List ℕ) → at + 4 ≤ length bytes → sum ≡ little_bytes 4 (checksum_of (without_four at bytes)) → part at 4 bytes ≡ sum
-    → bytes ≡ with_crc at bytes
-summed_from at bytes sum fits is right = sym (laid_again at 4 bytes fits) ∙ ap (λ (xs : List ℕ). overlaid at xs bytes) (right ∙ is)
-
-pub sum_from : (at : ℕ) (bytes sum : List ℕ) → at + 4 ≤ length bytes → sum ≡ little_bytes 4 (checksum_of (without_four at bytes)) → bytes ≡ with_crc at bytes
-    → part at 4 bytes ≡ sum
-sum_from at bytes sum fits is right =
-    ap (part at 4) right ∙ part-overlaid at 4 (little_bytes 4 (checksum_of (without_four at bytes))) bytes (length-sum at bytes) fits ∙ sym is
+use Rattle.xr_block.specs.TreeBlock.{Place, Site, count_in, zero_filled, header, sibling, crc_place, tree_block}
+use Rattle.xr_base.specs.ChecksumLaws.{with_crc_same, take-with_crc, drop-with_crc}
 
 -- one field more, and the last of some fields
 joined : (n k m : ℕ) (xs ys field : List ℕ) → n + k ≡ m → take n xs ≡ ys → part n k xs ≡ field → take m xs ≡ ys ++ field
@@ -208,19 +186,16 @@ block_laid form site place count items bytes long is =
     let fill = fields_fill form.long in
     let sp : ℕ = crc_place form in
     let all : List ℕ = laid form site place count items in
-    let sum : List ℕ = little_bytes 4 (checksum_of (without_four sp all)) in
     record {
-      before = ap (take sp) is ∙ ap (take sp) (append_assoc (take sp all) sum (drop (sp + length sum) all))
-          ∙ take_at (take sp all) _ sp (length-take-le sp all (omega (arith, fill, long)));
-      after = ap (drop (sp + 4)) is
-          ∙ drop_overlaid sp (sp + 4) sum all (omega (arith, length-sum sp all)) (omega (arith, fill, long, length-sum sp all));
+      before = ap (take sp) is ∙ take-with_crc sp all (omega (arith, fill, long));
+      after = ap (drop (sp + 4)) is ∙ drop-with_crc sp (sp + 4) all (omega arith) (omega (arith, fill, long));
     }
 
 -- with the checksum they are the block
 pub laid_block : {X : Type 0} (form : Form X) (site : Site) (place : Place) (count : ℕ) (items bytes : List ℕ) → IsHeaderLaid form site place count items bytes
     → with_crc (crc_place form) bytes ≡ tree_block form site place count items
 unfolding tree_block
-laid_block form site place count items bytes is = summed_same (crc_place form) bytes (laid form site place count items) is.before is.after
+laid_block form site place count items bytes is = with_crc_same (crc_place form) bytes (laid form site place count items) is.before is.after
 
 -- and a block of a tree passes the tests, and holds its items, its count and its siblings
 pub record IsRead {X : Type 0} (form : Form X) (site : Site) (place : Place) (count : ℕ) (items bytes : List ℕ) : Type 0 where
@@ -271,7 +246,7 @@ block_read form site place count items bytes identified room is =
     record {
       framed = λ low. record {
         magic = one.0;
-        checked = is ∙ sym (summed_same sp bytes all before after);
+        checked = is ∙ sym (with_crc_same sp bytes all before after);
         fields = record {
           low_level = low;
           level_is = one.1;

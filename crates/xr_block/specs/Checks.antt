@@ -3,9 +3,10 @@ use Rattle.std.specs.Prelude.{◌≡◌, ℕ, ◌+◌, ◌-◌, ◌*◌, ◌^◌
 use Rattle.byteorder.specs.Endian.{big_bytes, big_number}
 use Rattle.xr_base.specs.Image.{part}
 use Rattle.xr_kinds.specs.Form.{Form, header_size, key_size, pointer_size}
-use Rattle.xr_block.specs.TreeBlock.{Place, Site, count_in, crc_place, with_crc, bb_blkno, bb_lsn, bb_owner, bb_rightsib, bb_uuid}
+use Rattle.xr_block.specs.TreeBlock.{Place, Site, count_in, crc_place, bb_blkno, bb_lsn, bb_owner, bb_rightsib, bb_uuid}
 use Rattle.xr_base.specs.declared.layout.TheConstants.{BB_BLKNO_BYTES, BB_LEFTSIB, BB_LEVEL, BB_LSN_BYTES}
 use Rattle.xr_base.specs.declared.geometry.TheConstants.{BLOCK_SECTORS, UUID_BYTES}
+use Rattle.xr_base.specs.Checksum.{with_crc}
 
 -- the sibling that stands in the first bytes, if there is one
 abbrev pub sibling_in : ℕ → List ℕ → Option ℕ

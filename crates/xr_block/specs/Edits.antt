@@ -3,8 +3,9 @@ use Rattle.std.specs.Prelude.{◌≡◌, ℕ, ◌+◌, ◌≤◌, true, Option, 
 use Rattle.std.specs.List.{All}
 use Rattle.xr_block.specs.BlockLaws.{AreEntries}
 use Rattle.xr_kinds.specs.Form.{Form}
-use Rattle.xr_block.specs.TreeBlock.{Entry, Place, Site, leaf_bytes, node_bytes, crc_place, with_crc}
+use Rattle.xr_block.specs.TreeBlock.{Entry, Place, Site, leaf_bytes, node_bytes, crc_place}
 use Rattle.xr_block.specs.declared.header.Header.{Header}
+use Rattle.xr_base.specs.Checksum.{with_crc}
 
 -- the bytes with their checksum
 abbrev pub sealed : {X : Type 0} → Form X → List ℕ → List ℕ

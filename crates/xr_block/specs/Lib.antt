@@ -12,6 +12,7 @@ pub mod ItemBytes
 pub mod ItemCheckLaws
 pub mod KeyLaws
 pub mod Leaf
+pub mod LeafLaws
 pub mod NodeEntries
 pub mod NodeEntryLaws
 pub mod PartLaws

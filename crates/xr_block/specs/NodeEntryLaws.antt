@@ -1,9 +1,8 @@
 -- What is read at a place of a node is the entry that the node holds there.
 use Rattle.std.proofs.Common.{◌≡◌, ℕ, zero, suc, ◌+◌, ◌-◌, ◌*◌, ◌^◌, ◌<◌, ◌≤◌, Bool, true, false, if◌then◌else◌, List, ◌++◌, length, take, drop, replicate, get_or, refl, sym, ap, ◌∙◌, arith}
 use Rattle.std.proofs.lemmas.List.{drop-drop, length-append, length-replicate}
-use Rattle.byteorder.specs.Endian.{big_bytes, big_number, little_bytes}
+use Rattle.byteorder.specs.Endian.{big_bytes, big_number}
 use Rattle.byteorder.specs.Numbers.{big_from-take}
-use Rattle.xr_base.specs.Checksum.{checksum_of, without_four}
 use Rattle.xr_base.specs.Image.{part}
 use Rattle.xr_base.specs.ImageLaws.{part_below}
 use Rattle.xr_base.specs.declared.geometry.TheConstants.{BLOCK_BYTES}
@@ -11,6 +10,7 @@ use Rattle.xr_kinds.specs.BigEndianLaws.{reads_alone}
 use Rattle.xr_kinds.specs.Form.{Form, header_size, key_size, pointer_size}
 use Rattle.xr_block.specs.NodeEntries.{child_in, key_in}
 use Rattle.xr_block.specs.TreeBlock.{Entry, Place, Site, count_in, entries_from, entries_in, zero_filled, header, crc_place, tree_block}
+use Rattle.xr_base.specs.Checksum.{sum_bytes, with_crc}
 
 after_count : (long : Bool) → (let sum : ℕ = if long then 64 else 52 in (8 ≤ sum) × (sum + 4 ≤ BLOCK_BYTES))
 after_count true = (omega arith, omega arith)
@@ -52,10 +52,10 @@ entry_read form bytes k d within =
 -- the count of a block that was built is the one that was written, whatever it is made of
 pub count_of_block : {X : Type 0} (form : Form X) (site : Site) (place : Place) (count : ℕ) (items : List ℕ) → count < 2 ^ 16
     → count_in (tree_block form site place count items) ≡ count
-unfolding tree_block header
+unfolding tree_block header with_crc
 count_of_block form site place count items small =
     let fields : List ℕ = header form site place count ++ items in
-    let sum : List ℕ = little_bytes 4 (checksum_of (without_four (crc_place form) (zero_filled BLOCK_BYTES fields))) in
+    let sum : List ℕ = sum_bytes (crc_place form) (zero_filled BLOCK_BYTES fields) in
     let sum_after : (8 ≤ crc_place form) × (crc_place form + 4 ≤ BLOCK_BYTES) = after_count form.long in
     let long : BLOCK_BYTES ≤ length (zero_filled BLOCK_BYTES fields) =
     omega (arith, length-append fields (replicate {A = ℕ} (BLOCK_BYTES - length fields) 0), length-replicate {A = ℕ} (BLOCK_BYTES - length fields) 0) in

@@ -5,8 +5,9 @@ use Rattle.xr_base.specs.Image.{part}
 use Rattle.xr_block.specs.Checks.{HasFields, HasHeader, HasRecords, HasZeroPadding}
 use Rattle.xr_block.specs.declared.fault.TreeKind.{TreeKind}
 use Rattle.xr_block.specs.declared.fault.TreeKind.TheVariants.{Checksum, Count, Field, Header, Magic}
-use Rattle.xr_block.specs.TreeBlock.{Site, count_in, crc_place, with_crc}
+use Rattle.xr_block.specs.TreeBlock.{Site, count_in, crc_place}
 use Rattle.xr_kinds.specs.Form.{Form}
+use Rattle.xr_base.specs.Checksum.{with_crc}
 
 -- a header: the magic, then the checksum, then the other fields
 abbrev pub RefusesHeader : {X : Type 0} → Form X → Site → ℕ → ℕ → List ℕ → TreeKind → Type 0

@@ -1,46 +1,26 @@
 -- The checksum of a block changes nothing else of it: the bytes with their checksum hold what the bytes hold.
 use Rattle.std.proofs.Common.{◌≡◌, ℕ, zero, suc, ◌+◌, ◌-◌, ◌/◌, ◌^◌, ◌<◌, ◌≤◌, ◌==◌, if◌then◌else◌, Some, None, List, [], ◌∷◌, ◌++◌, length, take, drop, replicate, sym, ap, ◌∙◌, arith}
 use Rattle.std.proofs.Math.Nat.{mod-lt}
-use Rattle.std.proofs.lemmas.List.{append_assoc, length-append, length-replicate, length-take-le, take_at}
+use Rattle.std.proofs.lemmas.List.{length-append, length-replicate}
 use Rattle.std.specs.Int.{byte_at, bytes_low_first}
-use Rattle.byteorder.specs.Endian.{big_number, little_bytes}
-use Rattle.byteorder.specs.Numbers.{big_from-take, length-bytes_low_first}
-use Rattle.xr_base.specs.Checksum.{checksum_of, without_four}
-use Rattle.xr_base.specs.ImageLaws.{length-overlaid, part_below}
+use Rattle.byteorder.specs.Endian.{big_number}
+use Rattle.byteorder.specs.Numbers.{big_from-take}
+use Rattle.xr_base.specs.Checksum.{checksum_of, without_four, with_crc, sum_bytes}
+use Rattle.xr_base.specs.ImageLaws.{part_below}
 use Rattle.xr_base.specs.declared.geometry.TheConstants.{BLOCK_BYTES}
 use Rattle.xr_kinds.specs.BigEndianLaws.{dropped_bytes, taken_bytes}
-use Rattle.xr_block.specs.BlockLaws.{drop_overlaid, fields_fill, summed_same}
+use Rattle.xr_block.specs.BlockLaws.{fields_fill}
 use Rattle.xr_kinds.specs.Form.{Form, header_size, pointer_size}
 use Rattle.xr_base.specs.Fields.{AreBytes}
-use Rattle.xr_block.specs.TreeBlock.{Place, Site, count_in, zero_filled, header, crc_place, with_crc, tree_block}
+use Rattle.xr_block.specs.TreeBlock.{Place, Site, count_in, zero_filled, header, crc_place, tree_block}
 use Rattle.xr_block.specs.Checks.{left_in, sibling_in, right_in}
 use Rattle.xr_block.specs.Edits.{sealed}
-
--- the four bytes of a checksum
-abbrev sum_bytes : ℕ → List ℕ → List ℕ
-sum_bytes at bytes = little_bytes 4 (checksum_of (without_four at bytes))
-
-length-sum_bytes : (at : ℕ) (bytes : List ℕ) → length (sum_bytes at bytes) ≡ 4
-length-sum_bytes at bytes = length-bytes_low_first 0 4 (checksum_of (without_four at bytes))
-
--- what stands before a checksum, and after it
-pub take_summed : (at : ℕ) (bytes : List ℕ) → at ≤ length bytes → take at (with_crc at bytes) ≡ take at bytes
-take_summed at bytes fits =
-    let sum : List ℕ = sum_bytes at bytes in
-    ap (take at) (append_assoc (take at bytes) sum (drop (at + length sum) bytes)) ∙ take_at (take at bytes) _ at (length-take-le at bytes fits)
-
-pub drop_summed : (at k : ℕ) (bytes : List ℕ) → at + 4 ≤ k → at + 4 ≤ length bytes → drop k (with_crc at bytes) ≡ drop k bytes
-drop_summed at k bytes after fits =
-    let long = length-sum_bytes at bytes in
-    drop_overlaid at k (sum_bytes at bytes) bytes (omega (arith, long, after)) (omega (arith, long, fits))
-
-summed_again : (at : ℕ) (bytes : List ℕ) → at + 4 ≤ length bytes → with_crc at (with_crc at bytes) ≡ with_crc at bytes
-summed_again at bytes fits =
-    summed_same at (with_crc at bytes) bytes (take_summed at bytes (omega (arith, fits))) (drop_summed at (at + 4) bytes (omega arith) fits)
+use Rattle.xr_base.specs.ChecksumLaws.{with_crc-with_crc, drop-with_crc, length-with_crc}
 
 -- a number before a checksum
 number_before : (at place width : ℕ) (bytes : List ℕ) → place + width ≤ at → at ≤ length bytes
     → big_number width (drop place (with_crc at bytes)) ≡ big_number width (drop place bytes)
+unfolding with_crc
 number_before at place width bytes before fits =
     sym (big_from-take 0 width width (drop place (with_crc at bytes)) (omega arith))
     ∙ ap (big_number width) (part_below at width place (sum_bytes at bytes) bytes before fits)
@@ -67,13 +47,13 @@ module _ {X : Type 0} (form : Form X) (bytes : List ℕ) (long : length bytes �
   roomy = let fill = fields_fill form.long in omega (arith, fill, long)
 
   pub length-sealed : length (sealed form bytes) ≡ BLOCK_BYTES
-  length-sealed =
-      length-overlaid (crc_place form) (sum_bytes (crc_place form) bytes) bytes (omega (arith, roomy, length-sum_bytes (crc_place form) bytes)) ∙ long
+  length-sealed = length-with_crc (crc_place form) bytes roomy ∙ long
 
   pub sealed_again : sealed form (sealed form bytes) ≡ sealed form bytes
-  sealed_again = summed_again (crc_place form) bytes roomy
+  sealed_again = with_crc-with_crc (crc_place form) bytes roomy
 
   pub sealed_bytes : AreBytes bytes → AreBytes (sealed form bytes)
+  unfolding with_crc
   sealed_bytes all =
       let at : ℕ = crc_place form in
       let sum : List ℕ = sum_bytes at bytes in
@@ -86,7 +66,7 @@ module _ {X : Type 0} (form : Form X) (bytes : List ℕ) (long : length bytes �
 
   -- what stands after the header
   pub sealed_rest : drop (header_size form) (sealed form bytes) ≡ drop (header_size form) bytes
-  sealed_rest = let fill = fields_fill form.long in drop_summed (crc_place form) (header_size form) bytes (omega (arith, fill)) roomy
+  sealed_rest = let fill = fields_fill form.long in drop-with_crc (crc_place form) (header_size form) bytes (omega (arith, fill)) roomy
 
   -- the sibling at a place before the checksum
   sealed_sibling : (place : ℕ) → place + pointer_size form ≤ crc_place form
@@ -111,4 +91,4 @@ sealed_block form site place count items identified =
     let all : List ℕ = zero_filled BLOCK_BYTES fields in
     let long : BLOCK_BYTES ≤ length all =
     omega (arith, length-append fields (replicate (BLOCK_BYTES - length fields) 0), length-replicate {A = ℕ} (BLOCK_BYTES - length fields) 0) in
-    summed_again (crc_place form) all (omega (arith, fill, long))
+    with_crc-with_crc (crc_place form) all (omega (arith, fill, long))

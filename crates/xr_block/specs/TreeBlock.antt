@@ -2,9 +2,8 @@
 use Rattle.std.specs.Prelude.{ℕ, zero, suc, ◌+◌, ◌-◌, ◌*◌, Option, Some, None, if◌then◌else◌, List, [], ◌∷◌, ◌++◌, length, take, drop, replicate}
 use Rattle.std.specs.List.{flat_map}
 use Rattle.std.specs.Option.{option_to_list}
-use Rattle.byteorder.specs.Endian.{big_bytes, big_number, little_bytes}
-use Rattle.xr_base.specs.Checksum.{checksum_of, without_four}
-use Rattle.xr_base.specs.Image.{overlaid}
+use Rattle.byteorder.specs.Endian.{big_bytes, big_number}
+use Rattle.xr_base.specs.Checksum.{with_crc}
 use Rattle.xr_base.specs.declared.geometry.TheConstants.{BLOCK_BYTES, BLOCK_SECTORS, UUID_BYTES}
 use Rattle.xr_kinds.specs.Form.{Form, header_size, key_size, pointer_size}
 use Rattle.xr_base.specs.declared.layout.TheConstants.{BB_BLKNO_BYTES, BB_LEFTSIB, BB_LSN_BYTES, BB_NUMRECS, LONG_BB_CRC, SHORT_BB_CRC}
@@ -31,10 +30,6 @@ pub record Entry : Type 0 where
 -- bytes with zeros after them, n in all
 abbrev pub zero_filled : ℕ → List ℕ → List ℕ
 zero_filled n bytes = bytes ++ replicate (n - length bytes) 0
-
--- the bytes with their checksum among them
-abbrev pub with_crc : ℕ → List ℕ → List ℕ
-with_crc at bytes = overlaid at (little_bytes 4 (checksum_of (without_four at bytes))) bytes
 
 -- where the fields stand that follow the left sibling
 abbrev pub bb_rightsib : {X : Type 0} → Form X → ℕ

@@ -7,7 +7,8 @@ ghost use Rattle.xr_block.specs.declared.fault.TreeKind.TheVariants.{Field};
 ghost use Rattle.xr_kinds.specs.Form.{header_size, key_size, pointer_size};
 ghost use Rattle.xr_pool.specs.Overlay.{pool_size};
 ghost use Rattle.xr_block.specs.Tree.{site_of};
-ghost use Rattle.xr_block.specs.TreeBlock.{count_in, crc_place, with_crc};
+ghost use Rattle.xr_block.specs.TreeBlock.{count_in, crc_place};
+ghost use Rattle.xr_base.specs.Checksum.{with_crc};
 
 use crate::fault::TreeKind;
 use crate::read::{count_of, header_size, pointer_bytes, record_at};

@@ -1,6 +1,6 @@
 //! The header of a tree's block: as a whole, its siblings, its count, and the checksum that seals the block.
 ghost use Rattle.std.specs.Prelude.{◌≡◌, ℕ, ◌+◌, ◌-◌, ◌*◌, ◌^◌, ◌<◌, ◌≤◌, ◌++◌, List, length, replicate};
-ghost use Rattle.byteorder.specs.Endian.{big_bytes};
+ghost use Rattle.byteorder.specs.Endian.{big_bytes, little_bytes};
 ghost use Rattle.xr_base.specs.Image.{overlaid};
 ghost use Rattle.xr_kinds.specs.Form.{header_size, pointer_size};
 ghost use Rattle.xr_pool.specs.Overlay.{pool_size};
@@ -130,13 +130,20 @@ pub(crate) fn put_header<R: Record>(out: &mut [u8], fields: &Header, count: usiz
     put_owner::<R>(owner, fields.owner);
 }
 
+fn put_crc(block: &mut Block, at: usize, sum: u32)
+    requires { at + 4 ≤ BLOCK_BYTES }
+    ensures { block.new ≡ overlaid at (little_bytes 4 sum) block.old }
+{
+    LittleEndian::write_u32(&mut block[at..at + 4], sum);
+}
+
 /// Writes the checksum, which each edit leaves as it was.
 pub fn seal<R: Record>(block: &mut Block)
     ensures { block.new ≡ sealed R.form block.old }
 {
     let at = crc_place::<R>();
     let sum = crc32c_without(block, at);
-    LittleEndian::write_u32(&mut block[at..at + 4], sum);
+    put_crc(block, at, sum);
 }
 
 /// Writes the count.

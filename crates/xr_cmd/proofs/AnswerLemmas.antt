@@ -107,6 +107,7 @@ scan_fails (scan.ItemType block) said text refuses = foreign_fails block 9 said 
 scan_fails (scan.Size block) said text refuses = foreign_fails block 10 said text refuses
 scan_fails (scan.Field block) said text refuses = foreign_fails block 11 said text refuses
 scan_fails (scan.Header block) said text refuses = foreign_fails block 12 said text refuses
+scan_fails (scan.Debt block) said text refuses = foreign_fails block 23 said text refuses
 scan_fails (scan.DiskFault faults) said text refuses = subst IsOfFailure (sym refuses.0) tt
 scan_fails scan.NoMemory said text refuses = subst IsOfFailure (sym refuses.0) tt
 

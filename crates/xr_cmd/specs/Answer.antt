@@ -63,6 +63,7 @@ RefusesScan (scan.ItemType block) said text = NamesForeign block 9 said text
 RefusesScan (scan.Size block) said text = NamesForeign block 10 said text
 RefusesScan (scan.Field block) said text = NamesForeign block 11 said text
 RefusesScan (scan.Header block) said text = NamesForeign block 12 said text
+RefusesScan (scan.Debt block) said text = NamesForeign block 23 said text
 RefusesScan (scan.DiskFault faults) said text = (said ≡ Disk) × (text ≡ disk_text)
 RefusesScan scan.NoMemory said text = (said ≡ Memory) × (text ≡ memory_text)
 

@@ -130,6 +130,7 @@ fn image_refusal(alloc: Global, fault: ScanFault) -> Answer
         ScanFault::Size { block } => foreign(alloc, block, 10),
         ScanFault::Field { block } => foreign(alloc, block, 11),
         ScanFault::Header { block } => foreign(alloc, block, 12),
+        ScanFault::Debt { block } => foreign(alloc, block, 23),
         ScanFault::DiskFault { .. } => fixed(Status::Disk, DISK_LINE),
         ScanFault::NoMemory => fixed(Status::Memory, MEMORY_LINE),
     }

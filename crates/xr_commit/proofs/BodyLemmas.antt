@@ -1,24 +1,13 @@
 -- A record in the log has one body, and what that is.
-use Rattle.std.proofs.Common.{◌≡◌, ℕ, ◌+◌, ◌-◌, ◌≤◌, ◌*◌, ◌∙◌, List, length, take, drop, ◌++◌, sym, ap, subst, arith}
+use Rattle.std.proofs.Common.{◌≡◌, ℕ, ◌+◌, ◌-◌, ◌≤◌, List, length, take, drop, ap, subst, arith}
 use Rattle.xr_base.specs.Image.{part}
 use Rattle.xr_base.specs.declared.geometry.TheConstants.{SECTOR_BYTES}
 use Rattle.xr_record.specs.declared.head.Head.{Head}
 use Rattle.xr_base.specs.declared.layout.TheConstants.{MAX_BODY_BYTES}
-use Rattle.std.proofs.lemmas.List.{append_assoc, take_at}
-use Rattle.xr_record.specs.Record.{IsSealed, sectors_of, zeros}
-use Rattle.xr_record.specs.Unsealing.{body_in}
-use Rattle.xr_record.specs.SealedRecordLaws.{sealed_body}
+use Rattle.xr_record.specs.Record.{IsSealed}
 use Rattle.xr_commit.specs.LogRecords.{LogRecord, StandsAt, bytes_at}
 use Rattle.xr_commit.specs.ReadBodies.{IsInLog}
-
-body_first : (bytes : List ℕ) (head : Head) (body : List ℕ) → IsSealed bytes head body → take head.len (body_in head.len bytes) ≡ body
-body_first bytes head body s =
-    let tail = zeros (512 * sectors_of (length body) - length body) in
-    ap (take head.len) (sealed_body bytes head body s ∙ append_assoc body tail s.rest) ∙ take_at body (tail ++ s.rest) head.len s.length_is
-
--- the body of a sealed record is told by its bytes
-pub one_body : (bytes : List ℕ) (head : Head) (body other : List ℕ) → IsSealed bytes head body → IsSealed bytes head other → body ≡ other
-one_body bytes head body other s t = sym (body_first bytes head body s) ∙ body_first bytes head other t
+use Rattle.xr_commit.specs.OneRecordLaws.{one_body}
 
 pub one_in : (log : List ℕ) (head found : Head) (body : List ℕ) (r : LogRecord) → StandsAt log head.lsn.sector (record { head = found; body = body })
     → found ≡ r.head → IsInLog log head r → body ≡ r.body

@@ -7,11 +7,12 @@ use Rattle.std.proofs.lemmas.Slice.Eq.{bytes_eq-Decides}
 use Rattle.xr_record.specs.declared.head.Head.{Head}
 use Rattle.xr_record.specs.declared.head.Lsn.{Lsn}
 use Rattle.xr_commit.specs.declared.fault.ScanFault.{ScanFault}
-use Rattle.xr_commit.specs.declared.fault.ScanFault.TheVariants.{Magic, Version, Length, Checksum, Place, Operation, ItemType, Size, Field, Header, DiskFault, NoMemory}
+use Rattle.xr_commit.specs.declared.fault.ScanFault.TheVariants.{Magic, Version, Length, Checksum, Place, Operation, ItemType, Size, Field, Debt, Header, DiskFault, NoMemory}
 use Rattle.xr_commit.specs.Chain.{IsTrail, IsPreviousRecord}
 use Rattle.xr_commit.specs.ChainHeaders.{HasChain, HasNoChain, IsHeaderBefore}
 use Rattle.xr_commit.specs.LogRecords.{LogRecord, heads_of}
 use Rattle.xr_commit.specs.Refusals.{LeadsNowhere, OrNoMemory}
+use Rattle.xr_commit.specs.OneRecordLaws.{lsn_is}
 
 -- identifiers that are told apart differ, and those that aren't are one
 pub told_apart : (xs ys : List ℕ) (r : Bool) → r ≡ bytes_eq xs ys → r ≡ false → xs ≢ ys
@@ -31,9 +32,6 @@ pub told_not_apart : (xs ys : List ℕ) (r : Bool) → r ≡ not (bytes_eq xs ys
 told_not_apart xs ys r is equal = (bytes_eq-Decides xs ys).0 (not_false (bytes_eq xs ys) (sym is ∙ equal))
 
 -- two places in the log that are told apart, or not
-pub lsn_is : (a b c d : ℕ) → a ≡ b → c ≡ d → ◌≡◌ {A = Lsn} (record { cycle = a; sector = c }) (record { cycle = b; sector = d })
-lsn_is a b c d e f = cc
-
 pub lsn_same : (a b : Lsn) (r : Bool) → r ≡ not (eqb a.cycle b.cycle && eqb a.sector b.sector) → r ≡ false → a ≡ b
 lsn_same a b r is equal =
     let both = and_parts (eqb a.cycle b.cycle) (eqb a.sector b.sector) (not_false _ (sym is ∙ equal)) in
@@ -55,6 +53,7 @@ or_no_memory P (Operation b) p = p
 or_no_memory P (ItemType b) p = p
 or_no_memory P (Size b) p = p
 or_no_memory P (Field b) p = p
+or_no_memory P (Debt b) p = p
 or_no_memory P (Header b) p = p
 or_no_memory P (DiskFault n) p = p
 or_no_memory P NoMemory p = tt
@@ -69,6 +68,7 @@ no_memory_too P Q f (Operation b) p = f (Operation b) p
 no_memory_too P Q f (ItemType b) p = f (ItemType b) p
 no_memory_too P Q f (Size b) p = f (Size b) p
 no_memory_too P Q f (Field b) p = f (Field b) p
+no_memory_too P Q f (Debt b) p = f (Debt b) p
 no_memory_too P Q f (Header b) p = f (Header b) p
 no_memory_too P Q f (DiskFault n) p = f (DiskFault n) p
 no_memory_too P Q f NoMemory p = tt

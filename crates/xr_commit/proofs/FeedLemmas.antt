@@ -8,7 +8,9 @@ use Rattle.xr_record.specs.declared.entry.Entry.{Entry}
 use Rattle.xr_record.specs.declared.fault.FeedFault.TheVariants.{Op}
 use Rattle.xr_record.specs.declared.head.Head.{Head}
 use Rattle.xr_record.specs.declared.rules.OpKind.{OpKind}
-use Rattle.xr_record.specs.Reading.{IsFaultOf, Reading, Reads}
+use Rattle.xr_record.specs.OneWayLaws.{one_reading}
+use Rattle.xr_record.specs.Reading.{IsFaultOf, Reading, Reads, is_open}
+use Rattle.xr_record.specs.Rules.{phase_of}
 use Rattle.xr_commit.specs.Entries.{HasEntries, joined_bodies}
 use Rattle.xr_commit.specs.LogRecords.{AreIn, LogRecord, home_of}
 use Rattle.xr_commit.specs.Operations.{HoldsOperations, headers_of, operation_len}
@@ -16,8 +18,9 @@ use Rattle.xr_commit.specs.Refusals.{BreaksOperations, IsWrongAfter, OrNoMemory}
 use Rattle.xr_commit.specs.declared.fault.ScanFault.{ScanFault}
 use Rattle.xr_commit.specs.declared.fault.ScanFault.TheVariants.{Operation}
 use Rattle.xr_commit.proofs.ChainLemmas.{no_memory_too}
-use Rattle.xr_commit.proofs.RecordLemmas.{as_many, nth, one_of}
+use Rattle.xr_commit.proofs.RecordLemmas.{one_of}
 use Rattle.xr_commit.specs.ReadBodies.{IsWrongRecord, ReadsRecord, HaveBeenRead, IsInLog}
+use Rattle.xr_commit.specs.HeadLaws.{length-heads, nth}
 
 pub joined_more : (before : List LogRecord) (r : LogRecord) → joined_bodies (before ++ r ∷ []) ≡ joined_bodies before ++ r.body
 joined_more before r = flat_map-append (λ (x : LogRecord). x.body) before (r ∷ []) ∙ ap (λ (b : List ℕ). joined_bodies before ++ b) (append-nil r.body)
@@ -50,7 +53,7 @@ pub read_more : (log : List ℕ) (heads : List Head) (records : List LogRecord) 
     → ((r : LogRecord) → r.head ≡ h → r.body ≡ body → ReadsRecord r old entries new all) → HaveBeenRead (take i records) entries old → HaveBeenRead (take (i + 1) records) all new
 read_more log heads records i h body entries all old new are within is body_is reads so_far =
     let it = one_of log heads records i h are within is in
-    subst (λ (rs : List LogRecord). HaveBeenRead rs all new) (sym (take_more records i (record { head = h; body = [] }) (subst (λ (n : ℕ). i < n) (as_many log heads records are) within)))
+    subst (λ (rs : List LogRecord). HaveBeenRead rs all new) (sym (take_more records i (record { head = h; body = [] }) (subst (λ (n : ℕ). i < n) (length-heads log heads records are) within)))
     (reads (nth records i h) it.head_is (sym (body_is (nth records i h) it)) (take i records) so_far)
 
 pub breaks_on : (log : List ℕ) (heads : List Head) (records : List LogRecord) (i : ℕ) (h : Head) (body : List ℕ) (entries : List Entry) (old : Reading) (fault : ScanFault)
@@ -63,7 +66,7 @@ breaks_on log heads records i h body entries old fault are within is body_is so_
       before = take i records;
       r = nth records i h;
       after = drop (suc i) records;
-      records_are = split_at records i (record { head = h; body = [] }) (subst (λ (n : ℕ). i < n) (as_many log heads records are) within);
+      records_are = split_at records i (record { head = h; body = [] }) (subst (λ (n : ℕ). i < n) (length-heads log heads records are) within);
       each = so_far.each;
       pieces = reads.pieces;
       o = reads.o;
@@ -87,3 +90,10 @@ pub entries_of : (records : List LogRecord) (entries : List Entry) (reader : Rea
 entries_of records entries reader read =
     let reads = read.reads.reads in
     record { each = read.each; pieces = reads.pieces; o = reads.o; rest = reader.held.rest; stream = reads.stream; entries_are = reads.entries_are }
+
+-- and whether they end within a transaction
+pub ends_of : (records : List LogRecord) (entries also : List Entry) (reader : Reading) → HaveBeenRead records entries reader → (said : HasEntries records also)
+    → is_open reader.held.phase ≡ is_open (phase_of said.o)
+ends_of records entries also reader read said =
+    let reads = read.reads.reads in
+    ap is_open (reads.phase_is ∙ ap phase_of (one_reading (joined_bodies records) reads.pieces said.pieces reads.o said.o reader.held.rest said.rest reads.stream said.stream).1)

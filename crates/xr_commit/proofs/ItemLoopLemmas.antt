@@ -15,6 +15,7 @@ use Rattle.xr_commit.specs.LoggedItems.{Logged, logged_regions}
 use Rattle.xr_commit.specs.ItemsOf.{region_count}
 use Rattle.xr_commit.specs.CheckItems.{IsNextBad, IsNextGood}
 use Rattle.xr_commit.proofs.PartLemmas.{after_format}
+use Rattle.xr_commit.specs.ItemsOfLaws.{length-logged_regions}
 
 -- the regions before a place are good items, and those from it on part into items
 pub record IsChecking (uuid : List ℕ) (last : ℕ) (regions : List (List ℕ)) (at latest : ℕ) : Type 0 where
@@ -36,16 +37,6 @@ pub last_push : (last : ℕ) (ls : List Logged) (l : Logged) → last_of last (l
 last_push last [] l = refl
 last_push last (m ∷ ms) l = last_push (last_after last m.item) ms l
 
-many : (item : Item) (bytes : List ℕ) → length (logged_regions (record { item = item; bytes = bytes })) ≡ region_count item
-many (Buf sector) bytes = refl
-many (Inode ino) bytes = refl
-many (Begin id work) bytes = refl
-many (Done id done) bytes = refl
-
--- how many regions an item has
-pub as_many : (l : Logged) → length (logged_regions l) ≡ region_count l.item
-as_many l = many l.item l.bytes
-
 -- the regions after an item part into items again
 parts_after : (item : Item) (bytes : List ℕ) (rest : List (List ℕ)) → IsItem item → are_items (logged_regions (record { item = item; bytes = bytes }) ++ rest) ≡ true → are_items rest ≡ true
 parts_after (Buf sector) bytes rest valid parted = after_format (Buf sector) (bytes ∷ rest) valid parted
@@ -60,7 +51,7 @@ pub checking_on : (uuid : List ℕ) (last : ℕ) (regions : List (List ℕ)) (at
     → IsNextGood uuid latest (drop at regions) item → latest' ≡ last_after latest item → n ≡ region_count item → IsChecking uuid last regions (at + n) latest'
 checking_on uuid last regions at latest latest' n item t next after few =
     let l = next.logged in
-    let some : n ≡ length (logged_regions l) = few ∙ ap region_count (sym next.item_is) ∙ sym (as_many l) in
+    let some : n ≡ length (logged_regions l) = few ∙ ap region_count (sym next.item_is) ∙ sym (length-logged_regions l) in
     let front : take n (drop at regions) ≡ logged_regions l = rw (some, next.regions_are) (take-append_seam (logged_regions l) next.rest) in
     let left_is : drop (at + n) regions ≡ next.rest = sym (drop-drop n at regions) ∙ rw (some, next.regions_are) (drop-append_seam (logged_regions l) next.rest) in
     record {
@@ -87,7 +78,7 @@ pub takes_some : (uuid : List ℕ) (regions : List (List ℕ)) (at latest n : �
     → (1 ≤ n) × (at + n ≤ length regions)
 takes_some uuid regions at latest n item within next few =
     let l = next.logged in
-    let some : n ≡ length (logged_regions l) = few ∙ ap region_count (sym next.item_is) ∙ sym (as_many l) in
+    let some : n ≡ length (logged_regions l) = few ∙ ap region_count (sym next.item_is) ∙ sym (length-logged_regions l) in
     (omega (arith, some), omega (arith, within, some, length-drop at regions, ap length next.regions_are, length-append (logged_regions l) next.rest))
 
 pub checking_breaks : (uuid : List ℕ) (last : ℕ) (regions : List (List ℕ)) (at latest region : ℕ) (fault : ItemFault) → IsChecking uuid last regions at latest

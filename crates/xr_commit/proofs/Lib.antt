@@ -13,7 +13,6 @@ pub mod LayerLemmas
 pub mod LogLemmas
 pub mod NextItemLemmas
 pub mod OneLiveLemmas
-pub mod OneRecordLemmas
 pub mod OperationSumLemmas
 pub mod PartLemmas
 pub mod PendingWalkLemmas

@@ -9,7 +9,7 @@ use Rattle.xr_commit.specs.Entries.{HasEntries, joined_bodies}
 use Rattle.xr_commit.specs.LiveLaws.{IsOneLive}
 use Rattle.xr_commit.specs.LiveStream.{IsLiveIn}
 use Rattle.xr_commit.specs.LogRecords.{HasSuper, LogRecord, log_of}
-use Rattle.xr_commit.proofs.OneRecordLemmas.{one_chain, one_head}
+use Rattle.xr_commit.specs.OneRecordLaws.{one_chain, one_head}
 
 one_super : (image u v : List ℕ) → HasSuper image u → HasSuper image v → u ≡ v
 one_super image u v one two = super_block-uuid u v one.whole two.whole (sym one.block ∙ two.block)

@@ -1,6 +1,6 @@
 -- Records in the log by the headers that name them, one after another.
 use Rattle.std.proofs.Common.{◌≡◌, ℕ, suc, ◌+◌, ◌<◌, ◌∙◌, List, [], All, length, get_or, take, drop, sym, ap, subst}
-use Rattle.std.proofs.lemmas.List.{get_or-map, length-map, take_more}
+use Rattle.std.proofs.lemmas.List.{get_or-map, take_more}
 use Rattle.std.proofs.lemmas.List.Elements.{All-push}
 use Rattle.std.proofs.Math.Seq.{split_at}
 use Rattle.xr_record.specs.declared.head.Head.{Head}
@@ -10,18 +10,12 @@ use Rattle.xr_commit.specs.LogRecords.{AreIn, LogRecord, StandsAt, home_of}
 use Rattle.xr_commit.specs.Operations.{KeepsUnmounts}
 use Rattle.xr_commit.specs.Refusals.{BreaksUnmounts}
 use Rattle.xr_commit.specs.ReadBodies.{IsInLog}
-
-pub as_many : (log : List ℕ) (heads : List Head) (records : List LogRecord) → AreIn log heads records → length heads ≡ length records
-as_many log heads records a = ap length a.heads_are ∙ length-map records (λ (r : LogRecord). r.head)
-
--- the record of a header
-abbrev pub nth : List LogRecord → ℕ → Head → LogRecord
-nth records i h = get_or records i (record { head = h; body = [] })
+use Rattle.xr_commit.specs.HeadLaws.{length-heads, nth}
 
 pub one_of : (log : List ℕ) (heads : List Head) (records : List LogRecord) (i : ℕ) (h : Head) → AreIn log heads records → i < length heads → h ≡ get_or heads i h
     → IsInLog log h (nth records i h)
 one_of log heads records i h a within is =
-    let here : i < length records = subst (λ (n : ℕ). i < n) (as_many log heads records a) within in
+    let here : i < length records = subst (λ (n : ℕ). i < n) (length-heads log heads records a) within in
     let same : (nth records i h).head ≡ h =
     sym (get_or-map (λ (r : LogRecord). r.head) records i (record { head = h; body = [] }) h here) ∙ sym (is ∙ ap (λ (hs : List Head). get_or hs i h) a.heads_are) in
     record { stands = subst (λ (x : Head). StandsAt log x.lsn.sector (nth records i h)) same (a.each i (record { head = h; body = [] }) here); head_is = same }
@@ -41,7 +35,7 @@ breaks_at log heads records i h fault a within is all wrong =
       first = record {
         before = take i records;
         after = drop (suc i) records;
-        records_are = split_at records i (record { head = h; body = [] }) (subst (λ (n : ℕ). i < n) (as_many log heads records a) within);
+        records_are = split_at records i (record { head = h; body = [] }) (subst (λ (n : ℕ). i < n) (length-heads log heads records a) within);
         each = all;
         lacks = p.0;
       };

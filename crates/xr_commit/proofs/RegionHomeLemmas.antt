@@ -13,7 +13,8 @@ use Rattle.xr_commit.specs.LogRecords.{AreIn, LogRecord, home_of}
 use Rattle.xr_commit.specs.Operations.{headers_of, operation_len}
 use Rattle.xr_commit.specs.ReadBodies.{IsInLog}
 use Rattle.xr_commit.proofs.HeaderWalkLemmas.{IsWalk, walk_begins, walk_ends, walk_on}
-use Rattle.xr_commit.proofs.RecordLemmas.{as_many, nth, one_of}
+use Rattle.xr_commit.proofs.RecordLemmas.{one_of}
+use Rattle.xr_commit.specs.HeadLaws.{length-heads, nth}
 
 -- the regions that are counted begin in the operations that were passed
 pub record IsCounting (body : List ℕ) (first : Bool) (at regions : ℕ) (started : Bool) : Type 0 where
@@ -75,7 +76,7 @@ seek_found log heads region i left begun started h body seeks within is body_is 
     let it = one_of log heads records i h are within is in
     let total : ℕ = regions_begun started (headers_of r.body) in
     let small : left < total = subst (λ (n : ℕ). left < n) (count ∙ ap (λ (b : List ℕ). regions_begun started (headers_of b)) (body_is r it)) few in
-    sym (seeks records are) ∙ ap (λ (rs : List LogRecord). home_of_region started rs left) (here records i h (subst (λ (n : ℕ). i < n) (as_many log heads records are) within))
+    sym (seeks records are) ∙ ap (λ (rs : List LogRecord). home_of_region started rs left) (here records i h (subst (λ (n : ℕ). i < n) (length-heads log heads records are) within))
     ∙ cond-true (ltb left total) (Some (home_of r.head)) (home_of_region (started_after started (headers_of r.body)) (drop (i + 1) records) (left - total)) (lt-ltb left total small)
     ∙ ap (λ (x : Head). Some (home_of x)) it.head_is
 
@@ -90,11 +91,11 @@ seek_on log heads region i left begun started started' h body seeks within is bo
     let after : started' ≡ started_after started (headers_of r.body) = last ∙ ap (λ (b : List ℕ). started_after started (headers_of b)) (body_is r it) in
     rw (same, after) (sym (cond-false (ltb left total) (Some (home_of r.head)) (home_of_region (started_after started (headers_of r.body)) (drop (i + 1) records) (left - total))
     (le-ltb left total (subst (λ (n : ℕ). n ≤ left) same many)))
-    ∙ ap (λ (rs : List LogRecord). home_of_region started rs left) (sym (here records i h (subst (λ (n : ℕ). i < n) (as_many log heads records are) within))) ∙ seeks records are)
+    ∙ ap (λ (rs : List LogRecord). home_of_region started rs left) (sym (here records i h (subst (λ (n : ℕ). i < n) (length-heads log heads records are) within))) ∙ seeks records are)
 
 pub seek_ends : (log : List ℕ) (heads : List Head) (region i left block : ℕ) (started : Bool) (records : List LogRecord) → IsSeeking log heads region i left started
     → length heads ≤ i → AreIn log heads records → home_of_region false records region ≡ Some block → ⊥
 seek_ends log heads region i left block started records seeks over are begins =
-    let none : drop i records ≡ [] = drop_all i records (omega (arith, over, as_many log heads records are)) in
+    let none : drop i records ≡ [] = drop_all i records (omega (arith, over, length-heads log heads records are)) in
     let e : None ≡ Some block = ap (λ (rs : List LogRecord). home_of_region started rs left) (sym none) ∙ seeks records are ∙ begins in
     absurd (cc)

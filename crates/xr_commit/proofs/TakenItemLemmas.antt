@@ -9,7 +9,7 @@ use Rattle.xr_items.specs.Items.{item_bytes}
 use Rattle.xr_items.specs.Valid.{IsItem}
 use Rattle.xr_commit.specs.ItemsOf.{region_count}
 use Rattle.xr_commit.specs.LoggedItems.{Logged, logged_regions}
-use Rattle.xr_commit.proofs.ItemLoopLemmas.{as_many}
+use Rattle.xr_commit.specs.ItemsOfLaws.{length-logged_regions}
 
 abbrev HoldsItem : Logged → Type 0
 HoldsItem l = IsItem l.item
@@ -40,7 +40,7 @@ next_of front [] default all below = absurd (omega (arith, ap (λ ls. length (fl
 next_of front (l ∷ back) default all below =
     let parts : flat_map logged_regions (front ++ l ∷ back) ≡ flat_map logged_regions front ++ (logged_regions l ++ flat_map logged_regions back) = flat_map-append logged_regions front (l ∷ back) in
     let pushed : flat_map logged_regions (front ++ l ∷ []) ≡ flat_map logged_regions front ++ (logged_regions l ++ []) = flat_map-append logged_regions front (l ∷ []) in
-    let own = as_many l in
+    let own = length-logged_regions l in
     record {
       item = l.item;
       valid = (later front (l ∷ back) all).0;

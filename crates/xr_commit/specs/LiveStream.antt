@@ -3,6 +3,8 @@ use Rattle.std.specs.Prelude.{◌≡◌, ℕ, Option, List, All, length}
 use Rattle.xr_disk.specs.Seen.{WasSeen}
 use Rattle.xr_record.specs.declared.head.Head.{Head}
 use Rattle.xr_record.specs.declared.entry.Entry.{Entry}
+use Rattle.xr_record.specs.Reading.{is_open}
+use Rattle.xr_record.specs.Rules.{phase_of}
 use Rattle.xr_commit.specs.declared.live_stream.Live.{Live}
 use Rattle.xr_commit.specs.declared.layout.TheConstants.{LOG_BYTES}
 use Rattle.xr_commit.specs.Chain.{IsLiveTrail, HasReserve}
@@ -30,9 +32,14 @@ pub record IsLiveStream (image : List ℕ) (live : Live) : Type 0 where
   pub superblock : HasSuper image live.uuid
   pub live_in : IsLiveIn live.uuid (log_of image) live.heads.items live.entries.items
 
+-- whether it ends within a transaction is told
+abbrev pub EndsOpen : List ℕ → List ℕ → Live → Type 0
+EndsOpen uuid log live = (live_in : IsLiveIn uuid log live.heads.items live.entries.items) → live.ends_open ≡ is_open (phase_of live_in.entries_are.o)
+
 -- the bytes that were read as the image's log have this live stream, also where the disk doesn't tell the image
 pub record WasReadLive (seen : Option (List ℕ)) (live : Live) : Type 0 where
   pub log : List ℕ
   pub long : length log ≡ LOG_BYTES
   pub live_in : IsLiveIn live.uuid log live.heads.items live.entries.items
+  pub ends : EndsOpen live.uuid log live
   pub log_is : WasSeen seen (λ image. log ≡ log_of image)

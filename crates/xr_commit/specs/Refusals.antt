@@ -2,6 +2,7 @@
 -- hold for the whole live stream: the superblock, the head, the chain back to the tail, the reserve after the head, the
 -- unmounts, the operations, the items.
 use Rattle.std.specs.Prelude.{◌≡◌, ◌⊎◌, ℕ, List, ◌∷◌, ◌++◌, All}
+use Rattle.xr_base.specs.Fields.{AreBytes}
 use Rattle.xr_base.specs.declared.geometry.TheConstants.{FIRST_LOG_BLOCK}
 use Rattle.xr_record.specs.declared.head.Head.{Head}
 use Rattle.xr_record.specs.declared.rules.OpKind.{OpKind}
@@ -88,6 +89,10 @@ RefusesLog uuid log fault =
 
 abbrev pub HasNoSuper : List ℕ → Type 0
 HasNoSuper image = (uuid : List ℕ) → HasSuper image uuid → ⊥
+
+-- an image without a superblock, or one whose log is bytes: such an image has one refusal at most, and none with a live stream
+abbrev pub IsReadable : List ℕ → Type 0
+IsReadable image = HasNoSuper image ⊎ AreBytes (log_of image)
 
 abbrev pub RefusesImage : List ℕ → ScanFault → Type 0
 RefusesImage image fault =

@@ -9,6 +9,8 @@ ghost use Rattle.xr_commit.specs.Refusals.{BreaksOperations, BreaksUnmounts, OrN
 ghost use Rattle.xr_commit.specs.ReadBodies.{IsFirstWrong, ReadsRecord, IsInLog};
 ghost use Rattle.xr_commit.specs.declared.fault.ScanFault.TheVariants.{Place};
 ghost use Rattle.xr_record.specs.declared.head.Head.{Head};
+ghost use Rattle.xr_record.specs.Reading.{is_open};
+ghost use Rattle.xr_record.specs.Rules.{phase_of};
 ghost use Rattle.xr_base.specs.declared.layout.TheConstants.{MAX_BODY_BYTES};
 
 use crate::fault::{ScanFault, log_block_of};
@@ -62,6 +64,14 @@ pub fn check_unmounts(log: &[u8], heads: &[Head], scratch: &mut [u8]) -> Result<
     Ok(())
 }
 
+/// What the bodies of live records say.
+#[derive(Debug, Drop)]
+pub struct Bodies {
+    pub entries: Vec<Entry>,
+    /// Whether they end within a transaction.
+    pub ends_open: bool,
+}
+
 /// Reads one record's operations, and adds the entries that they end.
 fn read_record(
     alloc: Global,
@@ -90,17 +100,19 @@ fn read_record(
     }
 }
 
-/// The entries of the stream of all live records' bodies.
+/// The entries of the stream of all live records' bodies, and whether it ends within a transaction.
 pub fn read_entries(
     alloc: Global,
     log: &[u8],
     heads: &[Head],
     scratch: &mut [u8],
-) -> Result<Vec<Entry>, ScanFault>
+) -> Result<Bodies, ScanFault>
     requires log { length log.now ≡ LOG_BYTES }
     requires scratch { length scratch.old ≡ MOST_RECORD_BYTES }
     requires records { AreHeadersOf log.now heads.now }
-    ensures entries { IfOk result (λ entries. OfRecords log.now heads.now (λ records. HasEntries records entries.items)) }
+    ensures entries { IfOk result (λ bodies. OfRecords log.now heads.now (λ records. HasEntries records bodies.entries.items)) }
+    ensures ends { IfOk result (λ bodies. OfRecords log.now heads.now (λ records. (said : HasEntries records bodies.entries.items)
+        → bodies.ends_open ≡ is_open (phase_of said.o))) }
     ensures broken { IfErr result (OrNoMemory (λ fault. OfRecords log.now heads.now (λ records. BreaksOperations records fault))) }
 {
     let mut reader = Reader::new(alloc)?;
@@ -109,5 +121,6 @@ pub fn read_entries(
         let body = body_at(log, head, scratch);
         read_record(alloc, head, body, &mut reader, &mut entries)?;
     }
-    Ok(entries)
+    let ends_open = reader.ends_open();
+    Ok(Bodies { entries, ends_open })
 }

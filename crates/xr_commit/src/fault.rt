@@ -41,6 +41,9 @@ pub enum ScanFault {
     /// greater than that of each one before it.
     #[error("an item in block {block} is wrong")]
     Field { block: u32 },
+    /// More intents are pending than a log has slots for. `live` doesn't count them.
+    #[error("too much work is pending in the log at block {block}")]
+    Debt { block: u32 },
     /// The superblock is bad.
     #[error("the header in block {block} is wrong")]
     Header { block: u32 },

@@ -1,9 +1,9 @@
 //! The live stream of a log: its records from the head's tail to the head, and their entries.
 ghost use Rattle.std.specs.Prelude.{◌≡◌, IfOk, IfErr, length};
-ghost use Rattle.xr_commit.specs.LiveStream.{IsLiveIn};
+ghost use Rattle.xr_commit.specs.LiveStream.{EndsOpen, IsLiveIn};
 ghost use Rattle.xr_commit.specs.Refusals.{OrNoMemory, RefusesLog};
 
-use crate::bodies::{check_unmounts, read_entries};
+use crate::bodies::{Bodies, check_unmounts, read_entries};
 use crate::chain::follow;
 use crate::check_items::check_items;
 use crate::fault::{ScanFault, log_block_of};
@@ -24,6 +24,8 @@ pub struct Live {
     pub heads: Vec<Head>,
     /// What their bodies say, in log order. A transaction that isn't ended is none.
     pub entries: Vec<Entry>,
+    /// Whether they end within such a transaction.
+    pub ends_open: bool,
 }
 
 /// The live stream of a log of an image with this identifier.
@@ -31,6 +33,7 @@ pub fn live_in(alloc: Global, uuid: Uuid, log: &[u8]) -> Result<Live, ScanFault>
     requires { length log.now ≡ LOG_BYTES }
     ensures uuid { IfOk result (λ live. live.uuid ≡ uuid) }
     ensures live { IfOk result (λ live. IsLiveIn uuid log.now live.heads.items live.entries.items) }
+    ensures ends { IfOk result (λ live. EndsOpen uuid log.now live) }
     ensures refused { IfErr result (OrNoMemory (RefusesLog uuid log.now)) }
 {
     let mut scratch = vec![in alloc; 0; MOST_RECORD_BYTES]?;
@@ -46,11 +49,12 @@ pub fn live_in(alloc: Global, uuid: Uuid, log: &[u8]) -> Result<Live, ScanFault>
         });
     }
     check_unmounts(log, &heads, &mut scratch)?;
-    let entries = read_entries(alloc, log, &heads, &mut scratch)?;
+    let Bodies { entries, ends_open } = read_entries(alloc, log, &heads, &mut scratch)?;
     check_items(&uuid, log, &heads, &entries, &mut scratch)?;
     Ok(Live {
         uuid,
         heads,
         entries,
+        ends_open,
     })
 }

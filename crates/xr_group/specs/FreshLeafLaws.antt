@@ -8,7 +8,7 @@ use Rattle.xr_base.specs.declared.layout.TheConstants.{BY_BLOCK_MAGIC, BY_SIZE_M
 use Rattle.xr_block.specs.TreeBlock.{Site, crc_place, header, leaf_bytes, tree_block}
 use Rattle.xr_block.specs.TreeBlock as tree
 use Rattle.xr_headers.specs.FreshImage.{first_sector_of, short_leaf, short_leaf_fields, whole_data}
-use Rattle.xr_headers.specs.Padded.{words, zero_padded}
+use Rattle.xr_headers.specs.Padded.{words}
 use Rattle.xr_headers.specs.declared.layout.TheConstants.{MISSING}
 use Rattle.xr_kinds.specs.Form.{Form}
 use Rattle.xr_kinds.specs.FreeRuns.{block_form, by_block, by_size, size_form}
@@ -16,8 +16,9 @@ use Rattle.xr_kinds.specs.Reference.{reference_form}
 use Rattle.xr_kinds.specs.Reverse.{reverse_form}
 use Rattle.xr_kinds.specs.Spans.{span}
 use Rattle.xr_kinds.specs.declared.span.Span.{Span}
-use Rattle.xr_open.specs.LeafTreeLaws.{same_checksum, same_padding}
+use Rattle.xr_open.specs.LeafTreeLaws.{same_padding}
 use Rattle.xr_open.specs.LeafTrees.{lone_place}
+use Rattle.xr_base.specs.Checksum.{with_crc}
 
 -- the run of all data blocks of a group
 abbrev pub whole_run : Span
@@ -46,9 +47,8 @@ leaf_is form site n records numbers place head items fits =
     fields_are form.magic numbers site.uuid (site.first + n) site.owner
     ∙ ap (λ (front : List ℕ). front ++ words numbers) (sym head)
     ∙ ap (λ (rest : List ℕ). header form site (lone_place n) (length records) ++ rest) (sym items) in
-    same_checksum SHORT_BB_CRC (zero_padded BLOCK_BYTES fields)
-    ∙ ap (tree.with_crc SHORT_BB_CRC) (same_padding BLOCK_BYTES fields fits ∙ ap (tree.zero_filled BLOCK_BYTES) same)
-    ∙ ap (λ (at : ℕ). tree.with_crc at (tree.zero_filled BLOCK_BYTES (header form site (lone_place n) (length records) ++ flat_map form.bytes_of records))) (sym place)
+    ap (with_crc SHORT_BB_CRC) (same_padding BLOCK_BYTES fields fits ∙ ap (tree.zero_filled BLOCK_BYTES) same)
+    ∙ ap (λ (at : ℕ). with_crc at (tree.zero_filled BLOCK_BYTES (header form site (lone_place n) (length records) ++ flat_map form.bytes_of records))) (sym place)
 
 module _ (site : Site) (n : ℕ) (long : length site.uuid ≡ UUID_BYTES) where
   fits_with : (magic : ℕ) → length (short_leaf_fields magic whole_data site.uuid (site.first + n) site.owner) ≤ BLOCK_BYTES

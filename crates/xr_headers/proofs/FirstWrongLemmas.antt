@@ -4,8 +4,9 @@ use Rattle.std.specs.Prelude.{◌≢◌, IsTrue, IsNone, IfSome}
 use Rattle.std.proofs.lemmas.Bool.{cases_lt}
 use Rattle.std.proofs.lemmas.List.{append-nil, get_or-drop, get_or-take, length-drop, length-take-le}
 use Rattle.xr_headers.specs.FirstWrong.{IsFirst, IsNamedPlace, IsWrong}
-use Rattle.xr_headers.specs.Padded.{IsZeroPadded, with_crc}
+use Rattle.xr_headers.specs.Padded.{IsZeroPadded}
 use Rattle.xr_headers.specs.PaddedLaws.{zero_padded_is}
+use Rattle.xr_base.specs.Checksum.{with_crc}
 
 -- what was found is the first of a kind, or there is none of it
 pub record Finds (found : Option ℕ) (Fact : ℕ → Type 0) : Type 0 where

@@ -6,7 +6,7 @@ use Rattle.xr_headers.specs.declared.superblock.Super.{Super}
 use Rattle.xr_headers.specs.declared.group_head.GroupHead.{GroupHead}
 use Rattle.xr_headers.specs.declared.file_core.Core.{Core}
 use Rattle.xr_headers.specs.Headers.{super_fields, group_fields, core_fields, core_bytes, IsPoolRoot, KeepsFilePool}
-use Rattle.xr_headers.specs.Padded.{with_crc}
+use Rattle.xr_base.specs.Checksum.{with_crc}
 
 -- the first place of which a fact holds
 pub record IsFirst (Fact : ℕ → Type 0) (place : ℕ) : Type 0 where

@@ -8,7 +8,8 @@ use Rattle.xr_base.specs.declared.layout.TheConstants.{LONG_BB_CRC, SHORT_BB_CRC
 use Rattle.xr_headers.specs.declared.group_head.GroupHead.{GroupHead}
 use Rattle.xr_headers.specs.declared.file_core.Core.{Core}
 use Rattle.xr_headers.specs.Headers.{super_block, group_block, core_block}
-use Rattle.xr_headers.specs.Padded.{words, with_crc, zero_padded}
+use Rattle.xr_headers.specs.Padded.{words, zero_padded}
+use Rattle.xr_base.specs.Checksum.{with_crc}
 
 -- a block of zeros
 abbrev pub zero_block : List ℕ

@@ -10,10 +10,11 @@ use Rattle.xr_base.specs.declared.geometry.TheConstants.{BLOCK_BYTES, SECTOR_BYT
 use Rattle.xr_headers.specs.declared.layout.TheConstants.{UUID_PLACE, BLOCK_CRC}
 use Rattle.xr_base.specs.declared.layout.TheConstants.{RECORD_CRC_PLACE, RECORD_MAGIC}
 use Rattle.xr_headers.specs.FreshImage.{fresh_block_of, fresh_front_block, fresh_file_block, fresh_group_block, fresh_log_block, unmount_fields}
-use Rattle.xr_headers.specs.Padded.{with_crc, zero_padded}
+use Rattle.xr_headers.specs.Padded.{zero_padded}
 use Rattle.xr_headers.specs.PaddedLaws.{length-with_crc_padded, zero_padded_is}
 use Rattle.xr_headers.specs.Headers.{super_block, super_fields, super_opening, super_geometry}
 use Rattle.xr_headers.specs.ReadBackLaws.{read_back}
+use Rattle.xr_base.specs.Checksum.{with_crc}
 
 -- the first block is the superblock
 pub fresh_block_of-super : (uuid : List ℕ) (cycle : ℕ) → fresh_block_of uuid cycle 0 ≡ super_block (record { uuid = uuid })

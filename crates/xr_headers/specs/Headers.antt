@@ -9,7 +9,8 @@ use Rattle.xr_headers.specs.declared.layout.TheConstants.{SUPER_MAGIC, GROUP_MAG
 use Rattle.xr_headers.specs.declared.superblock.Super.{Super}
 use Rattle.xr_headers.specs.declared.group_head.GroupHead.{GroupHead}
 use Rattle.xr_headers.specs.declared.file_core.Core.{Core}
-use Rattle.xr_headers.specs.Padded.{numbers_in, words, with_crc, zero_padded}
+use Rattle.xr_headers.specs.Padded.{numbers_in, words, zero_padded}
+use Rattle.xr_base.specs.Checksum.{with_crc}
 
 -- a superblock's identifier has all its bytes
 pub record IsSuper (s : Super) : Type 0 where

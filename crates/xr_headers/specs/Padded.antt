@@ -1,8 +1,7 @@
--- Bytes with zeros after them, numbers one after the other, and bytes with their checksum among them.
-use Rattle.std.specs.Prelude.{◌≡◌, ℕ, zero, suc, ◌+◌, List, [], ◌∷◌, ◌++◌, length, take, drop}
+-- Bytes with zeros after them, and numbers one after the other.
+use Rattle.std.specs.Prelude.{◌≡◌, ℕ, zero, suc, List, [], ◌∷◌, length, drop}
 use Rattle.std.specs.List.{flat_map}
-use Rattle.byteorder.specs.Endian.{big_bytes, big_number, little_bytes}
-use Rattle.xr_base.specs.Checksum.{checksum_of, without_four}
+use Rattle.byteorder.specs.Endian.{big_bytes, big_number}
 
 -- the first n of the bytes, with zeros after them where they are fewer
 unfoldable pub zero_padded : ℕ → List ℕ → List ℕ
@@ -23,7 +22,3 @@ words numbers = flat_map (big_bytes 4) numbers
 unfoldable pub numbers_in : ℕ → List ℕ → List ℕ
 numbers_in zero bytes = []
 numbers_in (suc n) bytes = big_number 4 bytes ∷ numbers_in n (drop 4 bytes)
-
--- the bytes, in which the four from a place on are the checksum of all with these four as zero, its lowest byte first
-unfoldable pub with_crc : ℕ → List ℕ → List ℕ
-with_crc at bytes = take at bytes ++ little_bytes 4 (checksum_of (without_four at bytes)) ++ drop (at + 4) bytes

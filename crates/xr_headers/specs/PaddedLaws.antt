@@ -1,7 +1,8 @@
 -- How long padded bytes, and bytes with their checksum among them, are, and what they are made of.
 use Rattle.std.proofs.Common.{◌≡◌, ℕ, zero, suc, ◌+◌, ◌*◌, ◌≤◌, List, [], ◌∷◌, ◌++◌, length, replicate, refl, ap, ◌∙◌, arith}
-use Rattle.std.proofs.lemmas.List.{length-append, length-take-le, length-drop}
-use Rattle.xr_headers.specs.Padded.{words, with_crc, zero_padded}
+use Rattle.xr_headers.specs.Padded.{words, zero_padded}
+use Rattle.xr_base.specs.Checksum.{with_crc}
+use Rattle.xr_base.specs.ChecksumLaws.{length-with_crc}
 
 pub length-zero_padded : (n : ℕ) (bytes : List ℕ) → length (zero_padded n bytes) ≡ n
 unfolding zero_padded
@@ -20,10 +21,6 @@ unfolding zero_padded
 zero_padded_is n m [] fits = let same : n ≡ m = omega arith in rw same (zero_padded_none m)
 zero_padded_is zero m (byte ∷ bytes) fits = absurd (omega arith)
 zero_padded_is (suc n) m (byte ∷ bytes) fits = ap (λ (rest : List ℕ). byte ∷ rest) (zero_padded_is n m bytes (omega arith))
-
-pub length-with_crc : (at : ℕ) (bytes : List ℕ) → at + 4 ≤ length bytes → length (with_crc at bytes) ≡ length bytes
-unfolding with_crc
-length-with_crc at bytes fits = simp length-append (omega (arith, length-take-le at bytes (omega arith), length-drop (at + 4) bytes))
 
 pub length-with_crc_padded : (at n : ℕ) (bytes : List ℕ) → at + 4 ≤ n → length (with_crc at (zero_padded n bytes)) ≡ n
 length-with_crc_padded at n bytes fits = length-with_crc at (zero_padded n bytes) (omega (arith, length-zero_padded n bytes)) ∙ length-zero_padded n bytes

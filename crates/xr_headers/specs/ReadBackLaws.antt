@@ -5,10 +5,11 @@ use Rattle.byteorder.specs.Endian.{big_bytes, big_number}
 use Rattle.byteorder.specs.Numbers.{big_number-reads_back}
 use Rattle.xr_base.specs.Image.{part}
 use Rattle.xr_headers.specs.Headers.{AreWords}
-use Rattle.xr_headers.specs.Padded.{numbers_in, words, with_crc, zero_padded}
+use Rattle.xr_headers.specs.Padded.{numbers_in, words, zero_padded}
 use Rattle.xr_headers.specs.PaddedLaws.{length-zero_padded}
 use Rattle.xr_headers.specs.PaddingLaws.{take-zero_padded}
-use Rattle.xr_headers.specs.ChecksumLaws.{take-with_crc}
+use Rattle.xr_base.specs.ChecksumLaws.{take-with_crc}
+use Rattle.xr_base.specs.Checksum.{with_crc}
 
 padded_at : (xs ys : List ℕ) → zero_padded (length xs) (xs ++ ys) ≡ xs
 unfolding zero_padded
@@ -23,7 +24,7 @@ read_back seal n at k fields before field after is place long below fits =
     let room : seal + 4 ≤ length block = omega (arith, length-zero_padded n fields) in
     let whole : length (before ++ field) ≡ at + k = omega (arith, length-append before field) in
     let front : take (at + k) (with_crc seal block) ≡ before ++ field =
-    sym (take-take (at + k) seal (with_crc seal block) below) ∙ ap (take (at + k)) (take-with_crc seal block room) ∙ take-take (at + k) seal block below
+    sym (take-take (at + k) seal (with_crc seal block) below) ∙ ap (take (at + k)) (take-with_crc seal block (omega (arith, room))) ∙ take-take (at + k) seal block below
     ∙ take-zero_padded (at + k) n fields (omega arith) ∙ ap (zero_padded (at + k)) is
     ∙ ap (λ (m : ℕ). zero_padded m (before ++ field ++ after)) (sym whole) ∙ padded_at (before ++ field) after in
     sym (drop-take at k (with_crc seal block)) ∙ ap (drop at) front ∙ drop_at before field at place

@@ -1,12 +1,12 @@
 //! Fields written at their places, checksums, and the comparison of a header with what it has to be.
 ghost use Rattle.std.specs.Prelude.{◌≡◌, ◌≢◌, ℕ, ◌+◌, ◌-◌, ◌*◌, ◌^◌, ◌<◌, ◌≤◌, ◌↔◌, ◌⊎◌, List, [], length, slice_index, IsTrue, IsNone, IfSome};
-ghost use Rattle.byteorder.specs.Endian.{big_bytes, little_bytes};
-ghost use Rattle.xr_base.specs.Checksum.{checksum_of, without_four};
+ghost use Rattle.byteorder.specs.Endian.{big_bytes};
+ghost use Rattle.xr_base.specs.Checksum.{with_crc, sum_bytes};
 ghost use Rattle.xr_base.specs.Image.{part, overlaid};
 ghost use Rattle.xr_headers.specs.FirstWrong.{IsFirst, IsNamedPlace, IsWrong};
 ghost use Rattle.xr_headers.specs.FreshImage.{first_sector_of};
 ghost use Rattle.xr_headers.specs.Headers.{AreWords};
-ghost use Rattle.xr_headers.specs.Padded.{numbers_in, words, with_crc, zero_padded};
+ghost use Rattle.xr_headers.specs.Padded.{numbers_in, words, zero_padded};
 
 use byteorder::{BigEndian, ByteOrder, LittleEndian};
 use thiserror::Error;
@@ -91,7 +91,7 @@ pub(crate) fn put_first_lsn(out: &mut [u8], at: usize, cycle: u32)
 /// The checksum of all bytes, as it is to stand at its place among them.
 fn sum_bytes(bytes: &[u8], at: usize) -> [u8; 4]
     requires { at + 4 ≤ length bytes.now }
-    ensures { result ≡ little_bytes 4 (checksum_of (without_four at bytes.now)) }
+    ensures { result ≡ sum_bytes at bytes.now }
 {
     let mut sum = [0; 4];
     LittleEndian::write_u32(&mut sum, crc32c_without(bytes, at));

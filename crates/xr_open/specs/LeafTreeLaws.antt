@@ -1,23 +1,21 @@
 -- A leaf that is a root is a tree by itself, and formatting writes such leaves.
-use Rattle.std.proofs.Common.{◌≡◌, ℕ, suc, ◌+◌, ◌-◌, ◌*◌, ◌≤◌, List, [], ◌∷◌, ◌++◌, length, take, drop, replicate, refl, sym, ap, subst, ◌∙◌, arith}
+use Rattle.std.proofs.Common.{◌≡◌, ℕ, suc, ◌+◌, ◌-◌, ◌≤◌, List, [], ◌++◌, length, replicate, refl, sym, ap, subst, ◌∙◌, arith}
 use Rattle.std.proofs.lemmas.List.{append-nil, append_assoc, length-append}
 use Rattle.std.proofs.lemmas.List.Elements.{All-cons, All-nil}
-use Rattle.byteorder.specs.Endian.{little_bytes}
-use Rattle.xr_base.specs.Checksum.{checksum_of, without_four}
+use Rattle.xr_base.specs.Checksum.{with_crc}
 use Rattle.xr_base.specs.declared.geometry.TheConstants.{BLOCK_BYTES, UUID_BYTES}
 use Rattle.xr_base.specs.declared.layout.TheConstants.{LONG_BB_CRC}
-use Rattle.xr_block.specs.BlockLaws.{length-header, records_of_leaf}
-use Rattle.xr_block.specs.CheckLaws.{length-sum}
+use Rattle.xr_block.specs.BlockLaws.{records_of_leaf}
 use Rattle.xr_block.specs.Rows.{AreLinked, AreRowsOf, leaves_from, rows_from}
-use Rattle.xr_block.specs.Tree.{AreRecords, IsUsed, site_of, tree_held}
+use Rattle.xr_block.specs.Tree.{AreRecords, IsUsed, site_of}
 use Rattle.xr_block.specs.TreeBlock.{Site, header, leaf_bytes, tree_block}
 use Rattle.xr_block.specs.TreeBlock as tree
-use Rattle.xr_headers.specs.FreshImage.{long_leaf, long_leaf_fields}
-use Rattle.xr_headers.specs.Padded.{with_crc, zero_padded}
+use Rattle.xr_headers.specs.FreshImage.{long_leaf_fields}
+use Rattle.xr_headers.specs.Padded.{zero_padded}
 use Rattle.xr_headers.specs.PaddedLaws.{zero_padded_is}
 use Rattle.xr_kinds.specs.Form.{Form, IsForm}
 use Rattle.xr_kinds.specs.Mapping.{mapping_form}
-use Rattle.xr_open.specs.LeafTrees.{FreshRootsAreLeaves, IsLeafRoot, IsLeafTree, LeafRootsAreTrees, leaf_root, lone_place}
+use Rattle.xr_open.specs.LeafTrees.{FreshRootsAreLeaves, IsLeafRoot, IsLeafTree, LeafRootsAreTrees, lone_place}
 use Rattle.xr_pool.specs.Overlay.{Blocks, block_at, is_free, pool_size}
 
 module _ {X : Type 0} (form : Form X) (laws : IsForm form) (b : Blocks) (n : ℕ) (records : List X) (leaf : IsLeafRoot form b n records) where
@@ -51,14 +49,9 @@ module _ {X : Type 0} (form : Form X) (laws : IsForm form) (b : Blocks) (n : ℕ
 pub leaf_roots_are_trees : {X : Type 0} (form : Form X) → IsForm form → LeafRootsAreTrees form
 leaf_roots_are_trees form laws b n records leaf = leaf_tree form laws b n records leaf
 
--- the two crates that write blocks say padding and checksums alike
+-- the two crates that write blocks say padding alike
 pub same_padding : (n : ℕ) (bytes : List ℕ) → length bytes ≤ n → zero_padded n bytes ≡ tree.zero_filled n bytes
 same_padding n bytes fits = zero_padded_is n (n - length bytes) bytes (omega arith)
-
-pub same_checksum : (at : ℕ) (bytes : List ℕ) → with_crc at bytes ≡ tree.with_crc at bytes
-unfolding with_crc
-same_checksum at bytes =
-    ap (λ (k : ℕ). take at bytes ++ little_bytes 4 (checksum_of (without_four at bytes)) ++ drop (at + k) bytes) (sym (length-sum at bytes))
 
 same_fields : (site : Site) (n : ℕ) → header mapping_form site (lone_place n) 0 ≡ long_leaf_fields site.uuid (site.first + n) site.owner ++ replicate 8 0
 unfolding header long_leaf_fields
@@ -79,8 +72,8 @@ padded_leaf n fields head long is fits =
     ∙ ap (tree.zero_filled n) (sym (append-nil head))
 
 same_leaf : (at n : ℕ) (fields head : List ℕ) → length fields ≡ 64 → head ≡ fields ++ replicate 8 0 → 72 ≤ n
-    → with_crc at (zero_padded n fields) ≡ tree.with_crc at (tree.zero_filled n (head ++ []))
-same_leaf at n fields head long is fits = same_checksum at (zero_padded n fields) ∙ ap (tree.with_crc at) (padded_leaf n fields head long is fits)
+    → with_crc at (zero_padded n fields) ≡ with_crc at (tree.zero_filled n (head ++ []))
+same_leaf at n fields head long is fits = ap (with_crc at) (padded_leaf n fields head long is fits)
 
 length-fields : (uuid : List ℕ) (block owner : ℕ) → length uuid ≡ UUID_BYTES → length (long_leaf_fields uuid block owner) ≡ 64
 unfolding long_leaf_fields

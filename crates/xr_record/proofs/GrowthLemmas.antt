@@ -4,14 +4,14 @@ use Rattle.std.proofs.lemmas.List.{append_assoc, drop-append-le, length-append, 
 use Rattle.xr_record.specs.declared.reader_fields.ReaderFields.{ReaderFields}
 use Rattle.xr_record.specs.declared.rules.Stage.{Stage}
 use Rattle.xr_record.specs.declared.rules.Stage.TheVariants as stage
-use Rattle.xr_record.specs.ReaderFields.{AwaitsMore, front_of, region_items, state_at, TakesBytes}
+use Rattle.xr_record.specs.ReaderFields.{AwaitsMore, front_of, region_items, phase_at, TakesBytes}
 use Rattle.xr_record.specs.Operations.{fields}
 
-pub state_at-append : (s : Stage) (regions : List (List ℕ)) (body more : List ℕ) → front_of s ≤ length body → state_at s regions (body ++ more) ≡ state_at s regions body
-state_at-append stage.Between regions body more h = refl
-state_at-append (stage.Begun tid) regions body more h = refl
-state_at-append (stage.Inside tid count) regions body more h = refl
-state_at-append (stage.Cut tid count front) regions body more h = rw (take-append-le front body more h) refl
+pub phase_at-append : (s : Stage) (regions : List (List ℕ)) (body more : List ℕ) → front_of s ≤ length body → phase_at s regions (body ++ more) ≡ phase_at s regions body
+phase_at-append stage.Between regions body more h = refl
+phase_at-append (stage.Begun tid) regions body more h = refl
+phase_at-append (stage.Inside tid count) regions body more h = refl
+phase_at-append (stage.Cut tid count front) regions body more h = rw (take-append-le front body more h) refl
 
 pub body_grown : (old new : ReaderFields) (taken : List ℕ) → AwaitsMore old → new.stage ≡ old.stage → new.regions ≡ old.regions → new.header ≡ old.header → new.place ≡ old.place
     → new.body.items ≡ old.body.items ++ taken → 12 ≤ length old.header.items
@@ -26,6 +26,6 @@ body_grown old new taken k s r h p b long most =
         most = λ l. rw (s, b, h) most;
       };
       place = p;
-      state = rw (s, r, b) (state_at-append old.stage (region_items old.regions.items) old.body.items taken front);
+      phase = rw (s, r, b) (phase_at-append old.stage (region_items old.regions.items) old.body.items taken front);
       rest = rw (s, h, b, drop-append-le (front_of old.stage) old.body.items taken front) (sym (append_assoc old.header.items (drop (front_of old.stage) old.body.items) taken));
     }

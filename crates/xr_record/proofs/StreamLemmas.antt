@@ -14,7 +14,7 @@ use Rattle.xr_record.specs.Operations.{Operation, fields, operation_bytes, sort_
 use Rattle.xr_base.specs.Fields.{AreBytes}
 use Rattle.xr_record.specs.Reading.{IsFaultOf, Reading, Reads}
 use Rattle.xr_record.specs.ReaderSteps.{FailsOn, TakesOn}
-use Rattle.xr_record.specs.Rules.{AtEntry, Breaks, IsPartial, ReadsTo, State, body_fault, header_fault, state_of, whole_fault, ReaderState, operation_body}
+use Rattle.xr_record.specs.Rules.{AtEntry, Breaks, IsPartial, ReadsTo, Phase, body_fault, header_fault, phase_of, whole_fault, ReaderState, operation_body}
 use Rattle.xr_record.specs.ReaderSteps.{goes_on}
 use Rattle.xr_record.specs.Stream.{Between, IsPiece, Open, Piece, all_bytes, begun, entry, operations, stream_of}
 use Rattle.xr_record.specs.HeaderRuleLaws.{is_right}
@@ -28,11 +28,11 @@ stream_more pieces o rest taken =
     append_assoc (all_bytes (flat_map operations pieces)) (all_bytes (begun o) ++ rest) taken
     ∙ ap (λ (xs : List ℕ). all_bytes (flat_map operations pieces) ++ xs) (append_assoc (all_bytes (begun o)) rest taken)
 
-pub reads_grown : (before : List ℕ) (es : List Entry) (old new : ReaderState) (taken : List ℕ) → ReadsTo before es old → new.place ≡ old.place → new.state ≡ old.state
+pub reads_grown : (before : List ℕ) (es : List Entry) (old new : ReaderState) (taken : List ℕ) → ReadsTo before es old → new.place ≡ old.place → new.phase ≡ old.phase
     → new.rest ≡ old.rest ++ taken
-    → IsPartial new.state new.rest → ReadsTo (before ++ taken) es new
+    → IsPartial new.phase new.rest → ReadsTo (before ++ taken) es new
 reads_grown before es old new taken r at s e p =
-    let state : new.state ≡ state_of r.o = s ∙ r.state_is in
+    let phase : new.phase ≡ phase_of r.o = s ∙ r.phase_is in
     record {
       pieces = r.pieces;
       o = r.o;
@@ -40,10 +40,10 @@ reads_grown before es old new taken r at s e p =
         whole = ap (λ (xs : List ℕ). xs ++ taken) r.stream.whole ∙ stream_more r.pieces r.o old.rest taken ∙ ap (stream_of r.pieces r.o) (sym e);
         each = r.stream.each;
         good = r.stream.good;
-        partial = subst (λ (st : State). IsPartial st new.rest) state p;
+        partial = subst (λ (st : Phase). IsPartial st new.rest) phase p;
       };
       entries_are = r.entries_are;
-      state_is = state;
+      phase_is = phase;
       place_is = λ fits.
           let a = length-append before taken in
           let b = ap length e ∙ length-append old.rest taken in
@@ -62,23 +62,23 @@ stream_step pieces more o next op e =
     ap all_bytes (flat_map-append operations pieces more) ∙ flat_map-append operation_bytes (flat_map operations pieces) (flat_map operations more) in
     rw (whole, front, append-nil (all_bytes (begun next))) (sym (append_assoc (all_bytes (flat_map operations pieces)) (all_bytes (flat_map operations more)) (all_bytes (begun next))))
 
-none_partial : (state : State) → IsPartial state []
-none_partial state = record { less = λ body. absurd (omega (arith, body.header)); right = λ long. absurd (omega arith) }
+none_partial : (phase : Phase) → IsPartial phase []
+none_partial phase = record { less = λ body. absurd (omega (arith, body.header)); right = λ long. absurd (omega arith) }
 
 pub reads_completed : (before : List ℕ) (es : List Entry) (old grown new : ReaderState) (taken : List ℕ) (entry_of : Option Entry) → ReadsTo before es old
-    → grown.place ≡ old.place → grown.state ≡ old.state → grown.rest ≡ old.rest ++ taken → Completes grown new entry_of → ReadsTo (before ++ taken) (es ++ option_to_list entry_of) new
+    → grown.place ≡ old.place → grown.phase ≡ old.phase → grown.rest ≡ old.rest ++ taken → Completes grown new entry_of → ReadsTo (before ++ taken) (es ++ option_to_list entry_of) new
 reads_completed before es old grown new taken entry_of r at s e c =
     let rest = grown.rest in
     let f = fields rest in
     let body = drop 12 rest in
-    let state : grown.state ≡ state_of r.o = s ∙ r.state_is in
-    let right = is_right (state_of r.o) f c.sort (subst (λ (st : State). header_fault st f ≡ None) state c.right) c.sort_is in
-    let op_is = operation_of (state_of r.o) rest c.sort c.small c.whole c.header right.client right.zeros c.sort_is in
+    let phase : grown.phase ≡ phase_of r.o = s ∙ r.phase_is in
+    let right = is_right (phase_of r.o) f c.sort (subst (λ (st : Phase). header_fault st f ≡ None) phase c.right) c.sort_is in
+    let op_is = operation_of (phase_of r.o) rest c.sort c.small c.whole c.header right.client right.zeros c.sort_is in
     let len : f.len ≡ length body = omega (arith, length-drop 12 rest, c.whole) in
-    let goes : goes_on (state_of r.o) c.sort f.tid body ≡ (option_to_list entry_of, new.state) = subst (λ (st : State). goes_on st c.sort f.tid body ≡ (option_to_list entry_of, new.state)) state c.goes in
+    let goes : goes_on (phase_of r.o) c.sort f.tid body ≡ (option_to_list entry_of, new.phase) = subst (λ (st : Phase). goes_on st c.sort f.tid body ≡ (option_to_list entry_of, new.phase)) phase c.goes in
     let small : AreBytes body = λ k. rw (get_or-drop 12 rest k 0) (c.small (12 + k)) in
-    let steps = step r.o f c.sort body r.stream.good right (word_fits 0 rest c.small) len small (subst (λ (st : State). body_fault st c.sort body ≡ None) state c.body) in
-    let entries : option_to_list entry_of ≡ map entry steps.pieces = sym (ap (λ (p : List Entry × State). p.0) goes) ∙ steps.entries_are in
+    let steps = step r.o f c.sort body r.stream.good right (word_fits 0 rest c.small) len small (subst (λ (st : Phase). body_fault st c.sort body ≡ None) phase c.body) in
+    let entries : option_to_list entry_of ≡ map entry steps.pieces = sym (ap (λ (p : List Entry × Phase). p.0) goes) ∙ steps.entries_are in
     record {
       pieces = r.pieces ++ steps.pieces;
       o = steps.next;
@@ -87,10 +87,10 @@ reads_completed before es old grown new taken entry_of r at s e c =
             ∙ stream_step r.pieces steps.pieces r.o steps.next _ steps.written ∙ ap (stream_of (r.pieces ++ steps.pieces) steps.next) (sym c.none_left);
         each = all_append IsPiece r.pieces steps.pieces r.stream.each steps.each;
         good = steps.good;
-        partial = rw c.none_left (none_partial (state_of steps.next));
+        partial = rw c.none_left (none_partial (phase_of steps.next));
       };
       entries_are = rw (r.entries_are, entries) (sym (map-append entry r.pieces steps.pieces));
-      state_is = sym (ap (λ (p : List Entry × State). p.1) goes) ∙ steps.state_is;
+      phase_is = sym (ap (λ (p : List Entry × Phase). p.1) goes) ∙ steps.phase_is;
       place_is = λ fits.
           let a = length-append before taken in
           let b = ap length e ∙ length-append old.rest taken in
@@ -101,36 +101,36 @@ reads_completed before es old grown new taken entry_of r at s e c =
     }
 
 -- what is broken stays broken
-abbrev sort_fault_of : State → List ℕ → Option Sort → Option OpKind
-sort_fault_of state body None = None
-sort_fault_of state body (Some sort) = body_fault state sort body
+abbrev sort_fault_of : Phase → List ℕ → Option Sort → Option OpKind
+sort_fault_of phase body None = None
+sort_fault_of phase body (Some sort) = body_fault phase sort body
 
-whole_fault_is : (state : State) (bytes : List ℕ) (sort : Option Sort) → whole_fault state bytes sort ≡ sort_fault_of state (operation_body bytes) sort
-whole_fault_is state bytes None = refl
-whole_fault_is state bytes (Some sort) = refl
+whole_fault_is : (phase : Phase) (bytes : List ℕ) (sort : Option Sort) → whole_fault phase bytes sort ≡ sort_fault_of phase (operation_body bytes) sort
+whole_fault_is phase bytes None = refl
+whole_fault_is phase bytes (Some sort) = refl
 
-breaks_more : (state : State) (bytes more : List ℕ) (kind : OpKind) → Breaks state bytes kind → Breaks state (bytes ++ more) kind
-breaks_more state bytes more kind b =
+breaks_more : (phase : Phase) (bytes more : List ℕ) (kind : OpKind) → Breaks phase bytes kind → Breaks phase (bytes ++ more) kind
+breaks_more phase bytes more kind b =
     let all = length-append bytes more in
     elim b [
-      | inl w ↦ inl (omega (arith, w.0), ap (header_fault state) (fields-append bytes more w.0) ∙ w.1)
+      | inl w ↦ inl (omega (arith, w.0), ap (header_fault phase) (fields-append bytes more w.0) ∙ w.1)
       | inr w ↦
           let same = fields-append bytes more w.0.header in
           let len : (fields (bytes ++ more)).len ≡ (fields bytes).len = ap (λ (f : Fields). f.len) same in
           let body : operation_body (bytes ++ more) ≡ operation_body bytes =
           rw (len, drop-append-le 12 bytes more (omega (arith, w.0.header))) (take-append-le (fields bytes).len (drop 12 bytes) more (omega (arith, length-drop 12 bytes, w.0.body))) in
-          let fault : whole_fault state (bytes ++ more) (sort_of (fields (bytes ++ more)).client (fields (bytes ++ more)).flags) ≡ Some kind =
+          let fault : whole_fault phase (bytes ++ more) (sort_of (fields (bytes ++ more)).client (fields (bytes ++ more)).flags) ≡ Some kind =
           let sort = sort_of (fields bytes).client (fields bytes).flags in
-          ap (λ (f : Fields). whole_fault state (bytes ++ more) (sort_of f.client f.flags)) same ∙ whole_fault_is state (bytes ++ more) sort
-          ∙ ap (λ (xs : List ℕ). sort_fault_of state xs sort) body ∙ sym (whole_fault_is state bytes sort) ∙ w.2 in
-          inr (record { header = omega (arith, w.0.header); body = omega (arith, w.0.body) }, ap (header_fault state) same ∙ w.1, fault)
+          ap (λ (f : Fields). whole_fault phase (bytes ++ more) (sort_of f.client f.flags)) same ∙ whole_fault_is phase (bytes ++ more) sort
+          ∙ ap (λ (xs : List ℕ). sort_fault_of phase xs sort) body ∙ sym (whole_fault_is phase bytes sort) ∙ w.2 in
+          inr (record { header = omega (arith, w.0.header); body = omega (arith, w.0.body) }, ap (header_fault phase) same ∙ w.1, fault)
     ]
 
 pub fails_on : (before : List ℕ) (es : List Entry) (old grown : ReaderState) (taken more : List ℕ) (fault : FeedFault) → ReadsTo before es old
-    → grown.place ≡ old.place → grown.state ≡ old.state → grown.rest ≡ old.rest ++ taken → IsFault grown fault → IsFaultOf (before ++ (taken ++ more)) fault
+    → grown.place ≡ old.place → grown.phase ≡ old.phase → grown.rest ≡ old.rest ++ taken → IsFault grown fault → IsFaultOf (before ++ (taken ++ more)) fault
 fails_on before es old grown taken more NoMemory r p s e f = tt
 fails_on before es old grown taken more (Op place kind) r p s e f =
-    let state : grown.state ≡ state_of r.o = s ∙ r.state_is in
+    let phase : grown.phase ≡ phase_of r.o = s ∙ r.phase_is in
     let whole : before ++ (taken ++ more) ≡ stream_of r.pieces r.o (grown.rest ++ more) =
     ap (λ (xs : List ℕ). xs ++ (taken ++ more)) r.stream.whole ∙ stream_more r.pieces r.o old.rest (taken ++ more)
     ∙ ap (stream_of r.pieces r.o) (sym (append_assoc old.rest taken more) ∙ ap (λ (xs : List ℕ). xs ++ more) (sym e)) in
@@ -145,7 +145,7 @@ fails_on before es old grown taken more (Op place kind) r p s e f =
         each = r.stream.each;
         good = r.stream.good;
         place_is = omega (arith, all, length-append (all_bytes (flat_map operations r.pieces)) (all_bytes (begun r.o) ++ (grown.rest ++ more)), length-append (all_bytes (begun r.o)) (grown.rest ++ more));
-        breaks = breaks_more (state_of r.o) grown.rest more kind (subst (λ (st : State). Breaks st grown.rest kind) state f.1);
+        breaks = breaks_more (phase_of r.o) grown.rest more kind (subst (λ (st : Phase). Breaks st grown.rest kind) phase f.1);
       },
       (λ fits.
           let a = length-append before (taken ++ more) in
@@ -157,7 +157,7 @@ fails_on before es old grown taken more (Op place kind) r p s e f =
     )
 
 -- one step of a reader
-pub settles_reads : (old grown new : ReaderState) (taken : List ℕ) (entry_of : Option Entry) → grown.place ≡ old.place → grown.state ≡ old.state
+pub settles_reads : (old grown new : ReaderState) (taken : List ℕ) (entry_of : Option Entry) → grown.place ≡ old.place → grown.phase ≡ old.phase
     → grown.rest ≡ old.rest ++ taken
     → Settles grown new entry_of → TakesOn old new taken (option_to_list entry_of)
 settles_reads old grown new taken entry_of p s e settles before es r = elim settles [
@@ -185,7 +185,7 @@ pub no_memory : (held : ReaderState) (piece : List ℕ) → FailsOn held piece N
 no_memory held piece before es r = tt
 
 -- a reader at the start has read nothing
-pub reads_nothing : (reader : Reading) → reader.ended ≡ None → reader.held.place ≡ 0 → reader.held.state ≡ AtEntry → reader.held.rest ≡ [] → Reads [] [] reader
+pub reads_nothing : (reader : Reading) → reader.ended ≡ None → reader.held.place ≡ 0 → reader.held.phase ≡ AtEntry → reader.held.rest ≡ [] → Reads [] [] reader
 reads_nothing reader e p s r = record {
   goes_on = e;
   reads = record {
@@ -193,7 +193,7 @@ reads_nothing reader e p s r = record {
     o = Between;
     stream = record { whole = sym r; each = tt; good = tt; partial = rw r (none_partial AtEntry) };
     entries_are = refl;
-    state_is = s;
+    phase_is = s;
     place_is = λ fits. let none = ap length r in omega arith;
   };
 }

@@ -46,20 +46,20 @@ held_body : (k : ReaderFields) → length k.header.items ≡ 12 → drop 12 (rea
 held_body k h = drop_at k.header.items (drop (front_of k.stage) k.body.items) 12 h
 
 -- nothing is whole before the header is
-pub short_partial : (k : ReaderFields) → IsGrowing k → length k.header.items < 12 → IsPartial (reader_state k).state (reader_state k).rest
+pub short_partial : (k : ReaderFields) → IsGrowing k → length k.header.items < 12 → IsPartial (reader_state k).phase (reader_state k).rest
 short_partial k g h =
     let l = held_length k g in
     let bare = g.bare h in
     record { less = λ body. absurd (omega (arith, body.header)); right = λ long. absurd (omega arith) }
 
-pub header_breaks : (k : ReaderFields) (kind : OpKind) → IsGrowing k → 12 ≤ length k.header.items → header_fault (reader_state k).state (fields k.header.items) ≡ Some kind
-    → Breaks (reader_state k).state (reader_state k).rest kind
+pub header_breaks : (k : ReaderFields) (kind : OpKind) → IsGrowing k → 12 ≤ length k.header.items → header_fault (reader_state k).phase (fields k.header.items) ≡ Some kind
+    → Breaks (reader_state k).phase (reader_state k).rest kind
 header_breaks k kind g h e =
     let l = held_length k g in
-    inl (omega arith, ap (header_fault (reader_state k).state) (held_fields k h) ∙ e)
+    inl (omega arith, ap (header_fault (reader_state k).phase) (held_fields k h) ∙ e)
 
-pub body_partial : (k : ReaderFields) → IsGrowing k → 12 ≤ length k.header.items → header_fault (reader_state k).state (fields k.header.items) ≡ None
-    → length k.body.items < front_of k.stage + (fields k.header.items).len → IsPartial (reader_state k).state (reader_state k).rest
+pub body_partial : (k : ReaderFields) → IsGrowing k → 12 ≤ length k.header.items → header_fault (reader_state k).phase (fields k.header.items) ≡ None
+    → length k.body.items < front_of k.stage + (fields k.header.items).len → IsPartial (reader_state k).phase (reader_state k).rest
 body_partial k g h e less =
     let l = held_length k g in
     let len : (fields (reader_state k).rest).len ≡ (fields k.header.items).len = ap (λ (f : Fields). f.len) (held_fields k h) in
@@ -67,7 +67,7 @@ body_partial k g h e less =
     let front = g.front in
     record {
       less = λ body. absurd (omega (arith, body.body));
-      right = λ long. ap (header_fault (reader_state k).state) (held_fields k h) ∙ e;
+      right = λ long. ap (header_fault (reader_state k).phase) (held_fields k h) ∙ e;
     }
 
 held_whole : (k : ReaderFields) (f : Fields) (sort : Sort) → IsGrowing k → IsWholeOperation k f sort → length (reader_state k).rest ≡ 12 + (fields (reader_state k).rest).len
@@ -84,7 +84,7 @@ held_is : (k : ReaderFields) (f : Fields) (sort : Sort) → IsGrowing k → IsWh
 held_is k f sort g w = held_fields k (omega (arith, w.header)) ∙ sym w.fields_are
 
 pub body_breaks : (k : ReaderFields) (f : Fields) (sort : Sort) (kind : OpKind) → IsGrowing k → IsWholeOperation k f sort
-    → body_fault (reader_state k).state sort (drop (front_of k.stage) k.body.items) ≡ Some kind → Breaks (reader_state k).state (reader_state k).rest kind
+    → body_fault (reader_state k).phase sort (drop (front_of k.stage) k.body.items) ≡ Some kind → Breaks (reader_state k).phase (reader_state k).rest kind
 body_breaks k f sort kind g w e =
     let rest = (reader_state k).rest in
     let all = held_whole k f sort g w in
@@ -94,8 +94,8 @@ body_breaks k f sort kind g w e =
     let sort_is : sort_of (fields rest).client (fields rest).flags ≡ Some sort = ap (λ (f : Fields). sort_of f.client f.flags) is ∙ w.sort_is in
     inr (
       record { header = omega arith; body = omega arith },
-      ap (header_fault (reader_state k).state) is ∙ w.right,
-      ap (whole_fault (reader_state k).state rest) sort_is ∙ ap (body_fault (reader_state k).state sort) body ∙ e,
+      ap (header_fault (reader_state k).phase) is ∙ w.right,
+      ap (whole_fault (reader_state k).phase rest) sort_is ∙ ap (body_fault (reader_state k).phase sort) body ∙ e,
     )
 
 pub small_append : (xs ys : List ℕ) → AreBytes xs → AreBytes ys → AreBytes (xs ++ ys)
@@ -104,8 +104,8 @@ small_append (x ∷ xs) ys f g zero = f 0
 small_append (x ∷ xs) ys f g (suc k) = small_append xs ys (λ n. f (suc n)) g k
 
 pub completes : (k : ReaderFields) (f : Fields) (sort : Sort) (new : ReaderState) (entry : Option Entry) → IsGrowing k → IsWholeOperation k f sort
-    → body_fault (reader_state k).state sort (drop (front_of k.stage) k.body.items) ≡ None
-    → goes_on (reader_state k).state sort f.tid (drop (front_of k.stage) k.body.items) ≡ (option_to_list entry, new.state) → new.rest ≡ []
+    → body_fault (reader_state k).phase sort (drop (front_of k.stage) k.body.items) ≡ None
+    → goes_on (reader_state k).phase sort f.tid (drop (front_of k.stage) k.body.items) ≡ (option_to_list entry, new.phase) → new.rest ≡ []
     → AreBytes (drop (front_of k.stage) k.body.items)
     → ((reader_state k).place + length (reader_state k).rest < 2 ^ 64 → new.place ≡ (reader_state k).place + length (reader_state k).rest) → Completes (reader_state k) new entry
 completes k f sort new entry g w e goes none small place =
@@ -117,10 +117,10 @@ completes k f sort new entry g w e goes none small place =
       sort = sort;
       header = omega arith;
       whole = all;
-      right = ap (header_fault (reader_state k).state) is ∙ w.right;
+      right = ap (header_fault (reader_state k).phase) is ∙ w.right;
       sort_is = ap (λ (f : Fields). sort_of f.client f.flags) is ∙ w.sort_is;
-      body = ap (body_fault (reader_state k).state sort) body ∙ e;
-      goes = ap (λ (f : Fields). goes_on (reader_state k).state sort f.tid (drop 12 rest)) is ∙ ap (goes_on (reader_state k).state sort f.tid) body ∙ goes;
+      body = ap (body_fault (reader_state k).phase sort) body ∙ e;
+      goes = ap (λ (f : Fields). goes_on (reader_state k).phase sort f.tid (drop 12 rest)) is ∙ ap (goes_on (reader_state k).phase sort f.tid) body ∙ goes;
       none_left = none;
       place = place;
       small = small_append k.header.items (drop (front_of k.stage) k.body.items) w.small small;

@@ -12,7 +12,7 @@ use Rattle.xr_record.specs.declared.operation.Sort.TheVariants.{Start, Whole, Fi
 use Rattle.xr_record.specs.declared.rules.OpKind.{OpKind}
 use Rattle.xr_record.specs.declared.rules.OpKind.TheVariants.{Header, Count}
 use Rattle.xr_record.specs.Operations.{Operation, client_of, fields, flags_of, operation_bytes, sort_of, raw_operation}
-use Rattle.xr_record.specs.Rules.{AtHeader, AtRegion, Breaks, IsPartial, State, body_fault, header_fault, is_client, is_header_body, is_len, is_tid, may_come, state_of, whole_fault, operation_body}
+use Rattle.xr_record.specs.Rules.{AtHeader, AtRegion, Breaks, IsPartial, Phase, body_fault, header_fault, is_client, is_header_body, is_len, is_tid, may_come, phase_of, whole_fault, operation_body}
 use Rattle.xr_record.specs.Stream.{AreParts, Between, Begun, Cut, HasBytes, Inside, IsTransactionFront, IsOpenPiece, IsPiece, Open, Piece, Transaction, Unmounting, Written, all_bytes, are_items, begun, commit, transaction_front, header_body, joined, later_parts, middle_part, operations, region, start, stream_of, transaction_header, unmount}
 use Rattle.xr_record.specs.StreamLaws.{IsBadInOneWay, IsGoodOrBad, IsOneReading}
 use Rattle.xr_record.specs.HeaderRuleLaws.{right_header}
@@ -48,8 +48,8 @@ op_fields op = record { tid = op.tid; len = length op.body; client = client_of o
 record IsRightOp (o : Open) (op : Operation) : Type 0 where
   tid : op.tid < 2 ^ 32
   len : length op.body < 2 ^ 32
-  header : header_fault (state_of o) (op_fields op) ≡ None
-  body : body_fault (state_of o) op.sort op.body ≡ None
+  header : header_fault (phase_of o) (op_fields op) ≡ None
+  body : body_fault (phase_of o) op.sort op.body ≡ None
 
 AreRight : Open → List Operation → Type 0
 AreRight o [] = Unit {0}
@@ -78,12 +78,12 @@ sort_right Last = refl
 sort_right Commit = refl
 sort_right Unmount = refl
 
-right_op : (o : Open) (op : Operation) → op.tid < 2 ^ 32 → length op.body < 2 ^ 32 → may_come (state_of o) op.sort ≡ true → is_tid (state_of o) op.sort op.tid ≡ true
-    → is_len (state_of o) op.sort (length op.body) ≡ true → body_fault (state_of o) op.sort op.body ≡ None → IsRightOp o op
+right_op : (o : Open) (op : Operation) → op.tid < 2 ^ 32 → length op.body < 2 ^ 32 → may_come (phase_of o) op.sort ≡ true → is_tid (phase_of o) op.sort op.tid ≡ true
+    → is_len (phase_of o) op.sort (length op.body) ≡ true → body_fault (phase_of o) op.sort op.body ≡ None → IsRightOp o op
 right_op o op t l comes tid len body = record {
   tid = t;
   len = l;
-  header = right_header (state_of o) (op_fields op) op.sort (client_right op.sort op.tid (length op.body)) (sort_right op.sort) comes refl tid len;
+  header = right_header (phase_of o) (op_fields op) op.sort (client_right op.sort op.tid (length op.body)) (sort_right op.sort) comes refl tid len;
   body = body;
 }
 
@@ -276,7 +276,7 @@ fields_at op bytes t h k e = ap fields e ∙ fields_of_op op t h k
 length_at : (op : Operation) (bytes t : List ℕ) → bytes ≡ operation_bytes op ++ t → length bytes ≡ 12 + length op.body + length t
 length_at op bytes t e = ap length e ∙ length-append (operation_bytes op) t ∙ ap (λ (n : ℕ). n + length t) (length_op op)
 
-partial_stuck : (o : Open) (bytes : List ℕ) → IsPartial (state_of o) bytes → IsStuck o bytes
+partial_stuck : (o : Open) (bytes : List ℕ) → IsPartial (phase_of o) bytes → IsStuck o bytes
 partial_stuck o bytes p op t r e =
     let same = fields_at op bytes t r.tid r.len e in
     let len : (fields bytes).len ≡ length op.body = ap (λ (f : Fields). f.len) same in
@@ -286,18 +286,18 @@ partial_stuck o bytes p op t r e =
 not_some : (o : Option OpKind) (kind : OpKind) → o ≡ None → o ≡ Some kind → ⊥
 not_some o kind p q = absurd cc
 
-breaks_stuck : (o : Open) (bytes : List ℕ) (kind : OpKind) → Breaks (state_of o) bytes kind → IsStuck o bytes
+breaks_stuck : (o : Open) (bytes : List ℕ) (kind : OpKind) → Breaks (phase_of o) bytes kind → IsStuck o bytes
 breaks_stuck o bytes kind b op t r e =
     let same = fields_at op bytes t r.tid r.len e in
-    let header : header_fault (state_of o) (fields bytes) ≡ None = ap (header_fault (state_of o)) same ∙ r.header in
+    let header : header_fault (phase_of o) (fields bytes) ≡ None = ap (header_fault (phase_of o)) same ∙ r.header in
     let len : (fields bytes).len ≡ length op.body = ap (λ (f : Fields). f.len) same in
     let body : operation_body bytes ≡ op.body = rw (len, e, drop_op op t) (take_at op.body t (length op.body) refl) in
     let sort : sort_of (fields bytes).client (fields bytes).flags ≡ Some op.sort = ap (λ (f : Fields). sort_of f.client f.flags) same ∙ sort_right op.sort in
-    let fault : whole_fault (state_of o) bytes (sort_of (fields bytes).client (fields bytes).flags) ≡ None =
-    ap (whole_fault (state_of o) bytes) sort ∙ ap (body_fault (state_of o) op.sort) body ∙ r.body in
+    let fault : whole_fault (phase_of o) bytes (sort_of (fields bytes).client (fields bytes).flags) ≡ None =
+    ap (whole_fault (phase_of o) bytes) sort ∙ ap (body_fault (phase_of o) op.sort) body ∙ r.body in
     elim b [
-      | inl w ↦ not_some (header_fault (state_of o) (fields bytes)) kind header w.1
-      | inr w ↦ not_some (whole_fault (state_of o) bytes (sort_of (fields bytes).client (fields bytes).flags)) kind fault w.2
+      | inl w ↦ not_some (header_fault (phase_of o) (fields bytes)) kind header w.1
+      | inr w ↦ not_some (whole_fault (phase_of o) bytes (sort_of (fields bytes).client (fields bytes).flags)) kind fault w.2
     ]
 
 same_cons : (x y : Operation) (xs ys : List Operation) → x ≡ y → xs ≡ ys → x ∷ xs ≡ y ∷ ys
@@ -339,29 +339,29 @@ pub one_reading : IsOneReading
 one_reading bytes ps qs o p r s f g =
     one_cut ps qs o p r s f.each f.good g.each g.good (partial_stuck o r f.partial) (partial_stuck p s g.partial) (sym f.whole ∙ g.whole)
 
-not_both : (state : State) (bytes : List ℕ) (kind : OpKind) → IsPartial state bytes → Breaks state bytes kind → ⊥
-not_both state bytes kind p b = elim b [
-  | inl w ↦ not_some (header_fault state (fields bytes)) kind (p.right w.0) w.1
+not_both : (phase : Phase) (bytes : List ℕ) (kind : OpKind) → IsPartial phase bytes → Breaks phase bytes kind → ⊥
+not_both phase bytes kind p b = elim b [
+  | inl w ↦ not_some (header_fault phase (fields bytes)) kind (p.right w.0) w.1
   | inr w ↦ p.less w.0
 ]
 
 pub good_or_bad : IsGoodOrBad
 good_or_bad bytes ps o r place kind f b =
     let same = one_cut ps b.pieces o b.o r b.rest f.each f.good b.each b.good (partial_stuck o r f.partial) (breaks_stuck b.o b.rest kind b.breaks) (sym f.whole ∙ b.whole) in
-    not_both (state_of o) r kind f.partial (subst (λ (w : Open). Breaks (state_of w) r kind) (sym same.1) (subst (λ (xs : List ℕ). Breaks (state_of b.o) xs kind) (sym same.2) b.breaks))
+    not_both (phase_of o) r kind f.partial (subst (λ (w : Open). Breaks (phase_of w) r kind) (sym same.1) (subst (λ (xs : List ℕ). Breaks (phase_of b.o) xs kind) (sym same.2) b.breaks))
 
-one_kind : (state : State) (bytes : List ℕ) (kind another : OpKind) → Breaks state bytes kind → Breaks state bytes another → kind ≡ another
-one_kind state bytes kind another b c = elim b [
-  | inl v ↦ elim c [ inl w ↦ same_some kind another (sym v.1 ∙ w.1) | inr w ↦ absurd (not_some (header_fault state (fields bytes)) kind w.1 v.1) ]
-  | inr v ↦ elim c [ inl w ↦ absurd (not_some (header_fault state (fields bytes)) another v.1 w.1) | inr w ↦ same_some kind another (sym v.2 ∙ w.2) ]
+one_kind : (phase : Phase) (bytes : List ℕ) (kind another : OpKind) → Breaks phase bytes kind → Breaks phase bytes another → kind ≡ another
+one_kind phase bytes kind another b c = elim b [
+  | inl v ↦ elim c [ inl w ↦ same_some kind another (sym v.1 ∙ w.1) | inr w ↦ absurd (not_some (header_fault phase (fields bytes)) kind w.1 v.1) ]
+  | inr v ↦ elim c [ inl w ↦ absurd (not_some (header_fault phase (fields bytes)) another v.1 w.1) | inr w ↦ same_some kind another (sym v.2 ∙ w.2) ]
 ]
 
 pub bad_in_one_way : IsBadInOneWay
 bad_in_one_way bytes place other kind another b c =
     let same = one_cut b.pieces c.pieces b.o c.o b.rest c.rest b.each b.good c.each c.good (breaks_stuck b.o b.rest kind b.breaks) (breaks_stuck c.o c.rest another c.breaks) (sym b.whole ∙ c.whole) in
-    let breaks : Breaks (state_of b.o) b.rest another = subst (λ (w : Open). Breaks (state_of w) b.rest another) (sym same.1) (subst (λ (xs : List ℕ). Breaks (state_of c.o) xs another) (sym same.2) c.breaks) in
+    let breaks : Breaks (phase_of b.o) b.rest another = subst (λ (w : Open). Breaks (phase_of w) b.rest another) (sym same.1) (subst (λ (xs : List ℕ). Breaks (phase_of c.o) xs another) (sym same.2) c.breaks) in
     let lens : length b.rest ≡ length c.rest = ap length same.2 in
-    (omega (arith, b.place_is, c.place_is), one_kind (state_of b.o) b.rest kind another b.breaks breaks)
+    (omega (arith, b.place_is, c.place_is), one_kind (phase_of b.o) b.rest kind another b.breaks breaks)
 
 -- its header has room for an operation's number and length
 pub record IsStorable (op : Operation) : Type 0 where

@@ -19,7 +19,7 @@ use Rattle.xr_record.specs.declared.rules.OpKind.{OpKind}
 use Rattle.xr_record.specs.declared.rules.OpKind.TheVariants.{Header, Count}
 use Rattle.xr_record.specs.Operations.{Operation, client_of, fields, flags_of, operation_bytes, sort_of, raw_operation}
 use Rattle.xr_base.specs.Fields.{AreBytes}
-use Rattle.xr_record.specs.Rules.{State, AtPart, AtRegion, body_fault, is_client, is_header_body, state_of}
+use Rattle.xr_record.specs.Rules.{Phase, AtPart, AtRegion, body_fault, is_client, is_header_body, phase_of}
 use Rattle.xr_record.specs.ReaderSteps.{goes_on}
 use Rattle.xr_record.specs.Stream.{AreFirstParts, AreParts, Between, Begun, Cut, HasBytes, Inside, IsTransactionFront, IsOpenPiece, IsPiece, Open, Piece, Transaction, Unmounting, Written, are_items, begun, commit, entry, transaction_front, header_body, joined, later_parts, middle_part, operations, region, start, transaction_header, unmount_body}
 use Rattle.xr_record.specs.HeaderRuleLaws.{IsRight}
@@ -144,11 +144,11 @@ sort_tells_flags f sort c h = elim (two_clients f.client f.flags (eqb ((f.flags 
 ]
 
 -- bytes whose header breaks no rule are those of an operation
-pub operation_of : (state : State) (bytes : List ℕ) (sort : Sort) → AreBytes bytes → length bytes ≡ 12 + (fields bytes).len → 12 ≤ length bytes
+pub operation_of : (phase : Phase) (bytes : List ℕ) (sort : Sort) → AreBytes bytes → length bytes ≡ 12 + (fields bytes).len → 12 ≤ length bytes
     → is_client (fields bytes) ≡ true → (fields bytes).zeros ≡ 0 → sort_of (fields bytes).client (fields bytes).flags ≡ Some sort
     → bytes ≡ operation_bytes record { tid = (fields bytes).tid; sort = sort; body = drop 12 bytes }
 unfolding raw_operation
-operation_of state (a ∷ b ∷ c ∷ d ∷ e ∷ f ∷ g ∷ h ∷ i ∷ j ∷ k ∷ l ∷ body) sort small whole long client zeros is =
+operation_of phase (a ∷ b ∷ c ∷ d ∷ e ∷ f ∷ g ∷ h ∷ i ∷ j ∷ k ∷ l ∷ body) sort small whole long client zeros is =
     let bytes = a ∷ b ∷ c ∷ d ∷ e ∷ f ∷ g ∷ h ∷ i ∷ j ∷ k ∷ l ∷ body in
     let first : big_bytes 4 (big_number 4 bytes) ≡ a ∷ b ∷ c ∷ d ∷ [] = big_bytes-number bytes (omega arith) small in
     let second : big_bytes 4 (big_number 4 (drop 4 bytes)) ≡ e ∷ f ∷ g ∷ h ∷ [] = big_bytes-number (drop 4 bytes) (omega arith) (λ n. rw (get_or-drop 4 bytes n 0) (small (4 + n))) in
@@ -162,19 +162,19 @@ operation_of state (a ∷ b ∷ c ∷ d ∷ e ∷ f ∷ g ∷ h ∷ i ∷ j ∷ 
     ∙ ap (λ (xs : List ℕ). a ∷ b ∷ c ∷ d ∷ (xs ++ (client_of sort ∷ flags_of sort ∷ 0 ∷ 0 ∷ body))) second
     ∙ rw (← tells.0, ← tells.1, k0, l0) refl in
     sym back
-operation_of state bytes sort small whole long client zeros is = absurd (omega arith)
+operation_of phase bytes sort small whole long client zeros is = absurd (omega arith)
 
 -- What an operation makes of what is open
 
 -- the pieces that became whole, and what is open then
-pub record Steps (o : Open) (op : Operation) (entries : List Entry) (state : State) : Type 0 where
+pub record Steps (o : Open) (op : Operation) (entries : List Entry) (phase : Phase) : Type 0 where
   pub pieces : List Piece
   pub next : Open
   pub written : begun o ++ op ∷ [] ≡ flat_map operations pieces ++ begun next
   pub each : AllByRecursion IsPiece pieces
   pub good : IsOpenPiece next
   pub entries_are : entries ≡ map entry pieces
-  pub state_is : state ≡ state_of next
+  pub phase_is : phase ≡ phase_of next
 
 region_room : (before len : ℕ) → (nat_lt 0 len && nat_le (before + len) 4096) ≡ true → (0 < len) × (before + len ≤ 4096)
 region_room before len h = grind (arith, nat_tests, h)
@@ -194,7 +194,7 @@ must_hold : (b : Bool) (kind : OpKind) → fault_unless b kind ≡ None → b �
 must_hold true kind h = refl
 must_hold false kind h = absurd cc
 
-step_start : (tid : ℕ) (body : List ℕ) → tid < 2 ^ 32 → length body ≡ 0 → Steps Between record { tid = tid; sort = Start; body = body } [] (state_of (Begun tid))
+step_start : (tid : ℕ) (body : List ℕ) → tid < 2 ^ 32 → length body ≡ 0 → Steps Between record { tid = tid; sort = Start; body = body } [] (phase_of (Begun tid))
 step_start tid body fits len = record {
   pieces = [];
   next = Begun tid;
@@ -202,11 +202,11 @@ step_start tid body fits len = record {
   each = tt;
   good = fits;
   entries_are = refl;
-  state_is = refl;
+  phase_is = refl;
 }
 
 step_unmount : (tid : ℕ) (body : List ℕ) → tid ≡ 0 → body ≡ unmount_body
-    → Steps Between record { tid = tid; sort = Unmount; body = body } (seen.Unmount ∷ []) (state_of Between)
+    → Steps Between record { tid = tid; sort = Unmount; body = body } (seen.Unmount ∷ []) (phase_of Between)
 step_unmount tid body t b = record {
   pieces = Unmounting ∷ [];
   next = Between;
@@ -214,11 +214,11 @@ step_unmount tid body t b = record {
   each = (tt, tt);
   good = tt;
   entries_are = refl;
-  state_is = refl;
+  phase_is = refl;
 }
 
 step_header : (own tid : ℕ) (body : List ℕ) → own < 2 ^ 32 → tid ≡ own → AreBytes body → is_header_body own body ≡ true
-    → Steps (Begun own) record { tid = tid; sort = Whole; body = body } [] (state_of (Inside record { tid = own; count = little_number 4 (drop 12 body); regions = [] }))
+    → Steps (Begun own) record { tid = tid; sort = Whole; body = body } [] (phase_of (Inside record { tid = own; count = little_number 4 (drop 12 body); regions = [] }))
 step_header own tid body fits t small e =
     let is = header_body_is own body small e in
     let op : List ℕ → Operation = λ xs. record { tid = own; sort = Whole; body = xs } in
@@ -229,7 +229,7 @@ step_header own tid body fits t small e =
       each = tt;
       good = record { tid = fits; count = is.1; regions = tt };
       entries_are = refl;
-      state_is = refl;
+      phase_is = refl;
     }
 
 step_whole : (t : Written) (tid : ℕ) (body : List ℕ) → IsTransactionFront t → tid ≡ t.tid → 0 < length body → length body ≤ 4096
@@ -247,7 +247,7 @@ step_whole t tid body f e some most =
         regions = all_push AreParts t.regions (body ∷ []) f.regions record { some = omega arith; each = (some, tt); most = rw alone most };
       };
       entries_are = refl;
-      state_is = ap (AtRegion t.tid t.count) (sym (map_push t.regions (body ∷ []) ∙ ap (λ (xs : List ℕ). map joined t.regions ++ xs ∷ []) alone));
+      phase_is = ap (AtRegion t.tid t.count) (sym (map_push t.regions (body ∷ []) ∙ ap (λ (xs : List ℕ). map joined t.regions ++ xs ∷ []) alone));
     }
 
 step_first : (t : Written) (tid : ℕ) (body : List ℕ) → IsTransactionFront t → tid ≡ t.tid → 0 < length body → length body ≤ 4096
@@ -261,11 +261,11 @@ step_first t tid body f e some most =
       each = tt;
       good = (f, record { each = (some, tt); most = rw alone most });
       entries_are = refl;
-      state_is = ap (AtPart t.tid t.count (map joined t.regions)) (sym alone);
+      phase_is = ap (AtPart t.tid t.count (map joined t.regions)) (sym alone);
     }
 
 step_commit : (t : Written) (tid : ℕ) (body : List ℕ) → IsTransactionFront t → tid ≡ t.tid → length body ≡ 0 → t.count ≡ length t.regions → are_items (map joined t.regions) ≡ true
-    → Steps (Inside t) record { tid = tid; sort = Commit; body = body } (seen.Trans t.tid (map joined t.regions) ∷ []) (state_of Between)
+    → Steps (Inside t) record { tid = tid; sort = Commit; body = body } (seen.Trans t.tid (map joined t.regions) ∷ []) (phase_of Between)
 step_commit t tid body f e len number items = record {
   pieces = Transaction t ∷ [];
   next = Between;
@@ -273,7 +273,7 @@ step_commit t tid body f e len number items = record {
   each = (record { front_is = f; number = number; items = items }, tt);
   good = tt;
   entries_are = refl;
-  state_is = refl;
+  phase_is = refl;
 }
 
 step_middle : (t : Written) (part : List ℕ) (parts : List (List ℕ)) (tid : ℕ) (body : List ℕ) → IsTransactionFront t → AreFirstParts part parts → tid ≡ t.tid
@@ -288,7 +288,7 @@ step_middle t part parts tid body f p e some most =
       each = tt;
       good = (f, record { each = all_push HasBytes (part ∷ parts) body p.each some; most = rw (more, length-append (joined (part ∷ parts)) body) most });
       entries_are = refl;
-      state_is = ap (AtPart t.tid t.count (map joined t.regions)) (sym more);
+      phase_is = ap (AtPart t.tid t.count (map joined t.regions)) (sym more);
     }
 
 step_last : (t : Written) (part : List ℕ) (parts : List (List ℕ)) (tid : ℕ) (body : List ℕ) → IsTransactionFront t → AreFirstParts part parts → tid ≡ t.tid
@@ -313,13 +313,13 @@ step_last t part parts tid body f p e some most =
         };
       };
       entries_are = refl;
-      state_is = ap (AtRegion t.tid t.count) (sym (map_push t.regions all ∙ ap (λ (xs : List ℕ). map joined t.regions ++ xs ∷ []) more));
+      phase_is = ap (AtRegion t.tid t.count) (sym (map_push t.regions all ∙ ap (λ (xs : List ℕ). map joined t.regions ++ xs ∷ []) more));
     }
 
 -- an operation that breaks no rule
-pub step : (o : Open) (f : Fields) (sort : Sort) (body : List ℕ) → IsOpenPiece o → IsRight (state_of o) f sort → f.tid < 2 ^ 32 → f.len ≡ length body → AreBytes body
-    → body_fault (state_of o) sort body ≡ None
-    → Steps o record { tid = f.tid; sort = sort; body = body } (goes_on (state_of o) sort f.tid body).0 (goes_on (state_of o) sort f.tid body).1
+pub step : (o : Open) (f : Fields) (sort : Sort) (body : List ℕ) → IsOpenPiece o → IsRight (phase_of o) f sort → f.tid < 2 ^ 32 → f.len ≡ length body → AreBytes body
+    → body_fault (phase_of o) sort body ≡ None
+    → Steps o record { tid = f.tid; sort = sort; body = body } (goes_on (phase_of o) sort f.tid body).0 (goes_on (phase_of o) sort f.tid body).1
 step Between f Start body good r fits len small fault = step_start f.tid body fits (sym len ∙ eqb-true f.len 0 r.len)
 step Between f Unmount body good r fits len small fault =
     step_unmount f.tid body (eqb-true f.tid 0 r.tid) ((bytes_eq-Decides body unmount_body).0 (must_hold (bytes_eq body unmount_body) Header fault))

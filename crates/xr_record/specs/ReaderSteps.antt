@@ -8,10 +8,10 @@ use Rattle.xr_record.specs.declared.layout.TheConstants.{TRANSACTION_COUNT_PLACE
 use Rattle.xr_record.specs.declared.operation.Sort.{Sort}
 use Rattle.xr_record.specs.declared.operation.Sort.TheVariants.{First, Last, Commit, Unmount}
 use Rattle.xr_record.specs.Reading.{IsFaultOf}
-use Rattle.xr_record.specs.Rules.{AtEntry, AtHeader, AtPart, AtRegion, ReaderState, ReadsTo, State}
+use Rattle.xr_record.specs.Rules.{AtEntry, AtHeader, AtPart, AtRegion, ReaderState, ReadsTo, Phase}
 
 -- what an operation with a right header and body makes of what is open
-abbrev pub goes_on : State → Sort → ℕ → List ℕ → List Entry × State
+abbrev pub goes_on : Phase → Sort → ℕ → List ℕ → List Entry × Phase
 goes_on AtEntry Unmount tid body = (seen.Unmount ∷ [], AtEntry)
 goes_on AtEntry sort tid body = ([], AtHeader tid)
 goes_on (AtHeader own) sort tid body = ([], AtRegion own (little_number 4 (drop TRANSACTION_COUNT_PLACE body)) [])

@@ -3,7 +3,7 @@ ghost use Rattle.std.specs.Prelude.{◌≡◌, ◌<◌, ◌≤◌, ◌++◌, [],
 ghost use Rattle.xr_record.specs.declared.entry.Entry.{Entry};
 ghost use Rattle.xr_record.specs.declared.fault.FeedFault.{FeedFault};
 ghost use Rattle.xr_record.specs.ReaderFields.{AwaitsMore, reader_state};
-ghost use Rattle.xr_record.specs.Reading.{IsFaultOf, Reads};
+ghost use Rattle.xr_record.specs.Reading.{IsFaultOf, Reads, is_open};
 ghost use Rattle.xr_record.specs.ReaderSteps.{FailsOn, TakesOn};
 
 use crate::entry::Entry;
@@ -105,6 +105,16 @@ impl Reader {
             },
             ended: None,
         })
+    }
+
+    /// Whether what was read ends within a transaction: it was begun, and no COMMIT has ended it.
+    pub fn ends_open(&self) -> bool
+        ensures { result ≡ is_open self.now.held.phase }
+    {
+        match self.fields.stage {
+            Stage::Between => false,
+            Stage::Begun { .. } | Stage::Inside { .. } | Stage::Cut { .. } => true,
+        }
     }
 
     /// Reads the next piece of the stream, and answers the transactions and unmounts that became whole. After a fault it

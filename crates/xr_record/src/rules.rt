@@ -1,6 +1,6 @@
 //! The rules that each operation is tested by.
 ghost use Rattle.std.specs.Prelude.{◌≡◌, ◌<◌, ◌≤◌, ◌∷◌, ℕ, List, IsNone, length};
-ghost use Rattle.xr_record.specs.ReaderFields.{front_of, region_items, state_at, HasCountBytes, IsHeaderSort};
+ghost use Rattle.xr_record.specs.ReaderFields.{front_of, region_items, phase_at, HasCountBytes, IsHeaderSort};
 ghost use Rattle.xr_record.specs.Operations.{sort_of};
 ghost use Rattle.xr_base.specs.Fields.{AreBytes};
 ghost use Rattle.xr_record.specs.Rules.{body_fault, is_client, is_header_body, is_len, is_region_len, is_tid, may_come};
@@ -70,7 +70,7 @@ fn sort_of(client: u8, flags: u8) -> Option<Sort>
 
 /// Whether an operation of this sort may come.
 fn may_come(stage: Stage, sort: Sort) -> bool
-    ensures { (regions : List (List ℕ)) (body : List ℕ) → result ≡ may_come (state_at stage regions body) sort }
+    ensures { (regions : List (List ℕ)) (body : List ℕ) → result ≡ may_come (phase_at stage regions body) sort }
 {
     match (stage, sort) {
         (Stage::Between, Sort::Start | Sort::Unmount) => true,
@@ -83,7 +83,7 @@ fn may_come(stage: Stage, sort: Sort) -> bool
 
 /// Whether an operation of this sort may have this number.
 fn is_tid(stage: Stage, sort: Sort, tid: u32) -> bool
-    ensures { (regions : List (List ℕ)) (body : List ℕ) → result ≡ is_tid (state_at stage regions body) sort tid }
+    ensures { (regions : List (List ℕ)) (body : List ℕ) → result ≡ is_tid (phase_at stage regions body) sort tid }
 {
     match stage {
         Stage::Between => match sort {
@@ -106,7 +106,7 @@ fn is_region_len(before: usize, len: u32) -> bool
 /// Whether an operation of this sort may have a body of this length.
 fn is_len(stage: Stage, sort: Sort, len: u32) -> bool
     ensures { (regions : List (List ℕ)) (body : List ℕ) → front_of stage ≤ length body
-        → result ≡ is_len (state_at stage regions body) sort len }
+        → result ≡ is_len (phase_at stage regions body) sort len }
 {
     match (stage, sort) {
         (Stage::Begun { .. }, _) => len == TRANSACTION_HEADER_BYTES as u32,
@@ -120,7 +120,7 @@ fn is_len(stage: Stage, sort: Sort, len: u32) -> bool
 /// The sort of an operation by its header, or the first rule that the header breaks.
 pub fn sort_in(stage: Stage, f: &Fields) -> Result<Sort, OpKind>
     ensures { (regions : List (List ℕ)) (body : List ℕ) → front_of stage ≤ length body
-        → IsHeaderSort (state_at stage regions body) f.now result }
+        → IsHeaderSort (phase_at stage regions body) f.now result }
 {
     if !is_client(f) {
         return Err(OpKind::Client);
@@ -188,7 +188,7 @@ fn are_items(regions: &[Vec<u8>]) -> bool
 
 /// The first rule that the body of an operation breaks whose header breaks none.
 pub fn body_fault(stage: Stage, regions: &[Vec<u8>], sort: Sort, body: &[u8]) -> Option<OpKind>
-    ensures fault { (front : List ℕ) → result ≡ body_fault (state_at stage (region_items regions.now) front) sort body.now }
+    ensures fault { (front : List ℕ) → result ≡ body_fault (phase_at stage (region_items regions.now) front) sort body.now }
     ensures room { IsNone result → HasCountBytes stage (length body.now) }
     ensures small { AreBytes body.now }
 {

@@ -135,6 +135,7 @@ fn reads_an_unmount_byte_by_byte(rt: HostRuntime) -> Result<(), Fail> {
         assert_eq!(rt; entries.len(), usize::from(i == 19), "byte {i}");
         assert!(rt; entries.iter().all(|entry| matches!(entry, Entry::Unmount)));
     }
+    assert!(rt; !reader.ends_open());
     Ok(())
 }
 
@@ -196,6 +197,7 @@ fn faults_by_the_first_broken_rule(rt: HostRuntime) -> Result<(), Fail> {
         let mut place = right.len() as u64;
         if kind == OpKind::Count {
             reader.feed(rt.alloc(), BEGIN)?;
+            assert!(rt; reader.ends_open());
             place = 40;
         }
         assert_eq!(rt; reader.feed(rt.alloc(), right)?.len(), 0);

@@ -7,7 +7,7 @@ use Rattle.xr_record.specs.declared.rules.OpKind.{OpKind}
 use Rattle.xr_record.specs.HoldLaws.{fields-append}
 use Rattle.xr_record.specs.Operations.{fields, sort_of}
 use Rattle.xr_record.specs.OneWayLaws.{good_or_bad}
-use Rattle.xr_record.specs.Rules.{Breaks, HasBody, IsBad, IsStream, State, body_fault, header_fault, operation_body, state_of, whole_fault}
+use Rattle.xr_record.specs.Rules.{Breaks, HasBody, IsBad, IsStream, Phase, body_fault, header_fault, operation_body, phase_of, whole_fault}
 use Rattle.xr_record.specs.Stream.{Open, Piece, all_bytes, begun, operations}
 use Rattle.std.specs.List.{flat_map}
 
@@ -20,11 +20,11 @@ same_body xs ys whole =
     ∙ ap (take (fields xs).len) (drop-append-le 12 xs ys (omega (arith, header)))
     ∙ take-append-le (fields xs).len (drop 12 xs) ys (omega (arith, header, body, left))
 
-whole_on : (state : State) (xs ys : List ℕ) (sort : Option Sort) → HasBody xs → whole_fault state (xs ++ ys) sort ≡ whole_fault state xs sort
+whole_on : (state : Phase) (xs ys : List ℕ) (sort : Option Sort) → HasBody xs → whole_fault state (xs ++ ys) sort ≡ whole_fault state xs sort
 whole_on state xs ys None whole = refl
 whole_on state xs ys (Some sort) whole = ap (body_fault state sort) (same_body xs ys whole)
 
-breaks_on : (state : State) (xs ys : List ℕ) (kind : OpKind) → Breaks state xs kind → Breaks state (xs ++ ys) kind
+breaks_on : (state : Phase) (xs ys : List ℕ) (kind : OpKind) → Breaks state xs kind → Breaks state (xs ++ ys) kind
 breaks_on state xs ys kind (inl (header, broken)) =
     inl (let e = length-append xs ys in omega (arith, header, e), ap (header_fault state) (fields-append xs ys (omega (arith, header))) ∙ broken)
 breaks_on state xs ys kind (inr (whole, right, broken)) =
@@ -53,7 +53,7 @@ bad_on xs ys place kind bad = record {
   each = bad.each;
   good = bad.good;
   place_is = let e = length-append xs ys in let f = length-append bad.rest ys in let g = bad.place_is in omega (arith, e, f, g);
-  breaks = breaks_on (state_of bad.o) bad.rest ys kind bad.breaks;
+  breaks = breaks_on (phase_of bad.o) bad.rest ys kind bad.breaks;
 }
 
 -- so no front of a right stream is bad

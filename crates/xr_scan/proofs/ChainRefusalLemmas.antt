@@ -12,7 +12,7 @@ use Rattle.xr_commit.specs.declared.layout.TheConstants.{MOST_RECORD_BYTES}
 use Rattle.xr_commit.specs.Chain.{IsLiveTrail, IsLost, IsPreviousRecord, IsTrail, NamesNoRecord}
 use Rattle.xr_commit.specs.LogRecords.{LogRecord, StandsAt, bytes_at}
 use Rattle.xr_commit.specs.Refusals.{BreaksChain, LeadsNowhere, fault_of}
-use Rattle.xr_commit.proofs.OneRecordLemmas.{chain_or_lost, one_record}
+use Rattle.xr_commit.specs.OneRecordLaws.{chain_or_lost, one_record}
 use Rattle.xr_scan.proofs.SealedRefusalLemmas.{drop_small, refused_one_way, sealed_taken, take_small}
 
 bytes_small : (log : List ℕ) (sector : ℕ) → AreBytes log → AreBytes (bytes_at log sector)

@@ -7,9 +7,9 @@ use Rattle.xr_base.specs.Image.{overlaid, part}
 use Rattle.xr_base.specs.ImageLaws.{length-overlaid, part-overlaid}
 use Rattle.xr_disk.specs.Crash.{Write}
 use Rattle.xr_commit.specs.LogRecords.{log_of}
-use Rattle.xr_commit.proofs.WholeRecordLemmas.{ends_within}
 use Rattle.xr_scan.specs.FalseRecords.{HasNoFalseRecord, own_sectors}
 use Rattle.xr_scan.specs.FalseRecordLaws.{DoneIsSound, OffLogIsSound, RestIsSound, UndoneIsSound, write_over}
+use Rattle.xr_commit.specs.WholeRecordLaws.{ends_within}
 
 in_none : (w : Write) → Contains [] w → ⊥
 in_none w has = let h = has.1 in omega (arith, h)

@@ -10,7 +10,7 @@ use Rattle.xr_base.specs.declared.geometry.TheConstants.{CYCLES, SECTOR_BYTES, U
 use Rattle.xr_base.specs.declared.layout.TheConstants.{RECORD_CRC_PLACE}
 use Rattle.xr_headers.specs.FreshImage.{fresh_block_of, fresh_image, unmount_fields}
 use Rattle.xr_headers.specs.FreshImageLaws.{block_of-fresh_image}
-use Rattle.xr_headers.specs.Padded.{with_crc, zero_padded}
+use Rattle.xr_headers.specs.Padded.{zero_padded}
 use Rattle.xr_headers.specs.PaddedLaws.{length-with_crc_padded, zero_padded_is}
 use Rattle.xr_headers.specs.PaddingLaws.{take-zero_padded}
 use Rattle.xr_record.specs.declared.head.Head.{Head}
@@ -20,6 +20,7 @@ use Rattle.xr_record.specs.SealedRecordLaws.{sealed_head, sealed_magic, sealed_p
 use Rattle.xr_commit.specs.LogRecords.{LogRecord, StandsAt, bytes_at, log_of}
 use Rattle.xr_scan.specs.FreshStateLaws.{unmount_head}
 use Rattle.xr_scan.proofs.FreshRecordLemmas.{fresh_record, length-unmount_body, unmount_body}
+use Rattle.xr_base.specs.Checksum.{with_crc}
 
 -- Parts of parts
 

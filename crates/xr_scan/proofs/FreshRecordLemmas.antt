@@ -2,12 +2,12 @@
 use Rattle.std.proofs.Common.{◌≡◌, ℕ, ◌*◌, ◌/◌, ◌%◌, ◌∙◌, List, [], ◌∷◌, ◌++◌, length, take, drop, replicate, refl, ap, arith}
 use Rattle.std.proofs.lemmas.List.{append_assoc, length-append}
 use Rattle.byteorder.specs.Endian.{big_bytes, little_bytes}
-use Rattle.xr_base.specs.Checksum.{checksum_of, without_four}
+use Rattle.xr_base.specs.Checksum.{checksum_of, without_four, with_crc}
 use Rattle.xr_base.specs.declared.geometry.TheConstants.{SECTOR_BYTES, UUID_BYTES}
 use Rattle.xr_base.specs.declared.layout.TheConstants.{MAX_BODY_BYTES, RECORD_CRC_PLACE, RECORD_FORMAT}
 use Rattle.xr_headers.specs.FreshImage.{first_lsn, record_opening, stamped_unmount, unmount_fields}
 use Rattle.xr_headers.specs.declared.layout.TheConstants.{MISSING}
-use Rattle.xr_headers.specs.Padded.{with_crc, words, zero_padded}
+use Rattle.xr_headers.specs.Padded.{words, zero_padded}
 use Rattle.xr_headers.specs.PaddedLaws.{zero_padded_is}
 use Rattle.xr_record.specs.Operations.{operation_bytes, raw_operation}
 use Rattle.xr_record.specs.Record.{fields_before, moved, padded_body, record_sectors, sectors_with, zeros}

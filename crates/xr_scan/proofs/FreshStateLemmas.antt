@@ -19,7 +19,7 @@ use Rattle.xr_commit.specs.Entries.{HasEntries}
 use Rattle.xr_commit.specs.LiveStream.{IsLiveIn}
 use Rattle.xr_commit.specs.LogRecords.{IsHead, LogRecord, StandsAt, log_of}
 use Rattle.xr_commit.specs.Operations.{HoldsOperations, KeepsUnmounts}
-use Rattle.xr_commit.proofs.OneRecordLemmas.{one_record}
+use Rattle.xr_commit.specs.OneRecordLaws.{one_record}
 use Rattle.xr_scan.specs.FreshStateLaws.{FreshHoldsItsBlocks, FreshIsLive, unmount_head}
 use Rattle.xr_scan.proofs.FreshLogLemmas.{fresh_sealed, none_later}
 use Rattle.xr_scan.proofs.FreshRecordLemmas.{unmount_body}

@@ -19,7 +19,7 @@ use Rattle.xr_commit.specs.LogRecords.{LogRecord, home_of, log_of}
 use Rattle.xr_commit.specs.Operations.{HoldsOperations, KeepsUnmounts}
 use Rattle.xr_commit.specs.RegionHomes.{home_of_region, regions_in}
 use Rattle.xr_commit.specs.Refusals.{BreaksOperations, BreaksUnmounts, IsFirstWithout, IsWrongAfter, RefusesBodies, RefusesHead, RefusesLog, RefusesLiveRecords}
-use Rattle.xr_commit.proofs.OneRecordLemmas.{one_chain, one_head}
+use Rattle.xr_commit.specs.OneRecordLaws.{one_chain, one_head}
 use Rattle.xr_scan.specs.RefusalLaws.{IsOneRefusal, LiveIsTaken}
 use Rattle.xr_scan.proofs.BadStreamLemmas.{front_is_right}
 use Rattle.xr_scan.proofs.ChainRefusalLemmas.{chain_or_refused, chain_refused_once}

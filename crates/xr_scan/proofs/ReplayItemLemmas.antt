@@ -11,10 +11,10 @@ use Rattle.xr_items.specs.declared.item.Item.TheVariants.{Buf, Inode, Begin, Don
 use Rattle.xr_items.specs.Items.{following}
 use Rattle.xr_commit.specs.ItemsOf.{region_count}
 use Rattle.xr_commit.specs.LoggedItems.{Logged, logged_regions}
-use Rattle.xr_commit.proofs.ItemLoopLemmas.{as_many}
 use Rattle.xr_scan.specs.Replaying.{AreCopies, IsNextLogged, IsStateBlock, LogsNone, LogsOnly, Replays}
 use Rattle.xr_scan.specs.Replayed.{logs_block}
 use Rattle.xr_scan.specs.Scanned.{copy_number, copy_of}
+use Rattle.xr_commit.specs.ItemsOfLaws.{length-logged_regions}
 
 pub count_none : (item : Item) → LogsNone item → region_count item ≡ 1
 count_none (Buf sector) none = absurd (false≢true (sym (none (sector / 8)) ∙ eq-eqb (sector / 8) (sector / 8) refl))
@@ -30,7 +30,7 @@ count_some (Done id of) block logs = absurd (false≢true (logs.only block ∙ e
 
 pub follower_within : (regions : List (List ℕ)) (at : ℕ) (item : Item) (l : Logged) → IsNextLogged regions at item l → region_count item ≡ 2 → at + 1 < length regions
 follower_within regions at item l next two =
-    omega (arith, two, as_many l, ap region_count next.item_is, length-drop at regions, ap length next.here, length-append (logged_regions l) next.rest)
+    omega (arith, two, length-logged_regions l, ap region_count next.item_is, length-drop at regions, ap length next.here, length-append (logged_regions l) next.rest)
 
 second : (item : Item) (bytes : List ℕ) (rest : List (List ℕ)) (d : List ℕ) → region_count item ≡ 2
     → get_or (logged_regions (record { item = item; bytes = bytes }) ++ rest) 1 d ≡ bytes

@@ -7,7 +7,6 @@ use Rattle.std.proofs.lemmas.List.{append-nil, append_assoc, length-append, leng
 use Rattle.xr_items.specs.declared.item.Item.{Item}
 use Rattle.xr_commit.specs.ItemsOf.{region_count}
 use Rattle.xr_commit.specs.LoggedItems.{Logged, logged_regions}
-use Rattle.xr_commit.proofs.ItemLoopLemmas.{as_many}
 use Rattle.xr_scan.specs.LoggedEntries.{IsWholeItem, Logs, logged_items}
 use Rattle.xr_scan.specs.Replayed.{is_logged, logs_block}
 use Rattle.xr_scan.specs.Replaying.{AreCopies, IsNextLogged, Replays}
@@ -15,6 +14,7 @@ use Rattle.xr_scan.specs.Scanned.{copy_number, copy_of}
 use Rattle.xr_scan.specs.Replayed.{replayed}
 use Rattle.xr_scan.proofs.ReplayItemLemmas.{or_false}
 use Rattle.xr_scan.proofs.ReplayLemmas.{replay_goes_on}
+use Rattle.xr_commit.specs.ItemsOfLaws.{length-logged_regions}
 
 or_assoc : (a b c : Bool) → ((a || b) || c) ≡ (a || (b || c))
 or_assoc true b c = refl
@@ -83,7 +83,7 @@ goes_on regions items ls at i item d old marks now marks' logs are below is t = 
       let at_item : i ≡ length (map f t.front) = t.index ∙ sym (length-map t.front f) in
       let same : item ≡ l.item = is ∙ ap (λ (xs : List Item). get_or xs i d) items_are ∙ ap (λ (n : ℕ). get_or (map f t.front ++ l.item ∷ map f rest) n d) at_item
       ∙ get_or-append_seam (map f t.front) l.item (map f rest) d in
-      let many : length (logged_regions l) ≡ region_count item = as_many l ∙ ap region_count (sym same) in
+      let many : length (logged_regions l) ≡ region_count item = length-logged_regions l ∙ ap region_count (sym same) in
       record {
         l = l;
         next = record {

@@ -13,7 +13,7 @@ use Rattle.xr_commit.specs.LiveStream.{IsLiveIn}
 use Rattle.xr_commit.specs.LoggedItems.{Logged}
 use Rattle.xr_commit.specs.LogRecords.{HasSuper, LogRecord, log_of}
 use Rattle.xr_commit.specs.Pending.{pending}
-use Rattle.xr_commit.proofs.OneRecordLemmas.{one_chain, one_head}
+use Rattle.xr_commit.specs.OneRecordLaws.{one_chain, one_head}
 use Rattle.xr_scan.specs.LoggedEntries.{LogAll, logged_items}
 use Rattle.xr_scan.specs.Replayed.{replayed}
 use Rattle.xr_scan.specs.State.{works_of}

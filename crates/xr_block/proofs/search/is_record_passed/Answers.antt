@@ -2,7 +2,7 @@ use Rattle.std.proofs.Common.{◌≡◌, ◌∙◌, get_or, ap, arith}
 use Rattle.std.proofs.lemmas.Option.{slice_get-get_or}
 use Rattle.xr_block.specs.Bounds.{is_before}
 use Rattle.xr_block.specs.TreeBlock.{records_in}
-use Rattle.xr_block.proofs.LeafLemmas.{record_read}
+use Rattle.xr_block.specs.LeafLaws.{record_read}
 use Rattle.xr_block.proofs.search.is_record_passed.Goals as goal
 
 pub returns-in-Some : goal.returns-in-Some

@@ -1,12 +1,13 @@
-use Rattle.std.proofs.Common.{List, subst, arith}
+use Rattle.std.proofs.Common.{◌∙◌, List, subst, arith}
 use Rattle.std.proofs.lemmas.List.{take_all}
 use Rattle.std.proofs.lemmas.Result.{err_from_is_err_and}
 use Rattle.xr_commit.specs.LogRecords.{LogRecord}
 use Rattle.xr_commit.specs.ReadBodies.{HaveBeenRead}
 use Rattle.xr_commit.proofs.BodyLemmas.{body_fits}
-use Rattle.xr_commit.proofs.FeedLemmas.{breaks_or_wants, entries_of, read_more}
-use Rattle.xr_commit.proofs.RecordLemmas.{as_many, nth, one_of}
+use Rattle.xr_commit.proofs.FeedLemmas.{breaks_or_wants, ends_of, entries_of, read_more}
+use Rattle.xr_commit.proofs.RecordLemmas.{one_of}
 use Rattle.xr_commit.proofs.bodies.read_entries.Goals as goal
+use Rattle.xr_commit.specs.HeadLaws.{length-heads, nth}
 
 pub body_at-body-requires-clause-stands : goal.body_at-body-requires-clause-stands
 body_at-body-requires-clause-stands c =
@@ -31,4 +32,9 @@ loop-head-preserved c records are =
 pub returns-clause-entries : goal.returns-clause-entries
 returns-clause-entries c records are =
     entries_of records _ c.loop-head.reader (subst (λ (rs : List LogRecord). HaveBeenRead rs c.loop-head.entries.items c.loop-head.reader)
-    (take_all c.loop-head.head-index records (let e = as_many _ _ _ are in let f = c.loop-head-test.false in omega arith)) (c.loop-head.invariant records are))
+    (take_all c.loop-head.head-index records (let e = length-heads _ _ _ are in let f = c.loop-head-test.false in omega arith)) (c.loop-head.invariant records are))
+
+pub returns-clause-ends : goal.returns-clause-ends
+returns-clause-ends c records are said =
+    c.ends_open-ends_open.ensures ∙ ends_of records _ _ c.loop-head.reader (subst (λ (rs : List LogRecord). HaveBeenRead rs c.loop-head.entries.items c.loop-head.reader)
+    (take_all c.loop-head.head-index records (let e = length-heads _ _ _ are in let f = c.loop-head-test.false in omega arith)) (c.loop-head.invariant records are)) said

@@ -1,8 +1,9 @@
 use Rattle.std.proofs.Common.{refl}
 use Rattle.xr_commit.proofs.BodyLemmas.{body_fits}
-use Rattle.xr_commit.proofs.RecordLemmas.{nth, one_of}
+use Rattle.xr_commit.proofs.RecordLemmas.{one_of}
 use Rattle.xr_commit.proofs.RegionHomeLemmas.{seek_ends, seek_found, seek_on}
 use Rattle.xr_commit.proofs.homes.block_of_region.Goals as goal
+use Rattle.xr_commit.specs.HeadLaws.{nth}
 
 pub loop-head-init : goal.loop-head-init
 loop-head-init c records are = refl

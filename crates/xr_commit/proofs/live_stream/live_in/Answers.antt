@@ -11,6 +11,7 @@ use Rattle.xr_commit.specs.Refusals.{BreaksOperations, RefusesLog}
 use Rattle.xr_commit.proofs.ChainLemmas.{or_no_memory, no_memory_too}
 use Rattle.xr_commit.proofs.LayerLemmas.{bodies_refused, chain_refused, is_live, no_reserve, top}
 use Rattle.xr_commit.proofs.WholeRecordLemmas.{all_within, chain_in, newest_within}
+use Rattle.xr_commit.specs.WholeRecordLaws.{chain_stands}
 use Rattle.xr_commit.proofs.live_stream.live_in.Goals as goal
 
 pub returns-in_err-heads-clause-refused : goal.returns-in_err-heads-clause-refused
@@ -86,3 +87,8 @@ returns-clause-live c =
     is_live _ _ _ _ _ _ c.in-Some.ensures chain c.deref.ensures.value (c.has_reserve.ensures.0 c.if-not-has_reserve.false)
     (c.in_ok-check_unmounts.ensures chain.records (chain_in _ _ _ _ _ c.in-Some.ensures.newest chain c.deref-2.ensures.value))
     (c.in_ok-entries.ensures.entries chain.records (chain_in _ _ _ _ _ c.in-Some.ensures.newest chain c.deref-3.ensures.value)) items.0 (subst (λ (es : List Entry). EntriesAreGood c.args.uuid 0 es items.0) c.deref-5.ensures.value items.1)
+
+pub returns-clause-ends : goal.returns-clause-ends
+returns-clause-ends c live =
+    c.in_ok-entries.ensures.ends live.records
+    record { each = chain_stands _ _ _ _ live.newest live.chain; heads_are = c.deref-3.ensures.value ∙ live.heads_are } live.entries_are

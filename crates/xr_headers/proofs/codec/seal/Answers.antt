@@ -1,6 +1,6 @@
-use Rattle.xr_headers.specs.Padded.{with_crc}
 use Rattle.xr_headers.proofs.codec.seal.Goals as goal
 use Rattle.std.proofs.Common.{refl}
+use Rattle.xr_base.specs.Checksum.{with_crc}
 
 pub returns : goal.returns
 unfolding with_crc

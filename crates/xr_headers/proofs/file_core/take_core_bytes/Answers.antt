@@ -2,13 +2,14 @@ use Rattle.std.proofs.Common.{Ok, ◌≡◌, ◌-◌, ◌+◌, ◌∙◌, List, 
 use Rattle.xr_headers.specs.declared.layout.TheConstants.{CORE_CRC, CORE_BYTES, CORE_FIELDS}
 use Rattle.xr_headers.specs.declared.file_core.Core.{Core}
 use Rattle.xr_headers.specs.Headers.{core_bytes, core_fields, core_in, IsCore, KeepsFilePool}
-use Rattle.xr_headers.specs.Padded.{IsZeroPadded, with_crc, zero_padded}
+use Rattle.xr_headers.specs.Padded.{IsZeroPadded, zero_padded}
 use Rattle.xr_base.specs.declared.geometry.TheConstants.{FIRST_INODE, UUID_BYTES}
 use Rattle.xr_headers.specs.HeaderValueLaws.{core_in-core_bytes}
 use Rattle.xr_headers.specs.FirstWrong.{IsCoreOutOfRange, NamesCoreField}
 use Rattle.xr_headers.proofs.FirstWrongLemmas.{Finds, field_named}
 use Rattle.xr_headers.specs.ChecksumLaws.{wanted_is}
 use Rattle.xr_headers.proofs.file_core.take_core_bytes.Goals as goal
+use Rattle.xr_base.specs.Checksum.{with_crc}
 
 block : (bytes : List ℕ) (v : Core) (wanted : List ℕ) → length bytes ≡ CORE_BYTES → IsZeroPadded CORE_FIELDS CORE_FIELDS (core_fields v) wanted
     → with_crc (length bytes - 4) (zero_padded (length bytes) wanted) ≡ core_bytes v

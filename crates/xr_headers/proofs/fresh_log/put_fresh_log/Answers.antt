@@ -4,9 +4,10 @@ use Rattle.xr_base.specs.declared.geometry.TheConstants.{BLOCK_BYTES}
 use Rattle.xr_base.specs.declared.layout.TheConstants.{RECORD_CRC_PLACE}
 use Rattle.xr_headers.specs.PaddedLaws.{length-with_crc_padded}
 use Rattle.xr_headers.specs.FreshImage.{unmount_fields}
-use Rattle.xr_headers.specs.Padded.{with_crc, zero_padded}
+use Rattle.xr_headers.specs.Padded.{zero_padded}
 use Rattle.xr_headers.specs.PaddingLaws.{zero_padded_over, take-zero_padded}
 use Rattle.xr_headers.proofs.fresh_log.put_fresh_log.Goals as goal
+use Rattle.xr_base.specs.Checksum.{with_crc}
 
 pub slice_bounds-seal-end-2 : goal.slice_bounds-seal-end-2
 slice_bounds-seal-end-2 c = sym (length-take-le 1024 c.lay_record.new.out (omega arith))

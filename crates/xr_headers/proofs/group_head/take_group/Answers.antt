@@ -4,12 +4,13 @@ use Rattle.xr_base.specs.declared.geometry.TheConstants.{BLOCK_BYTES, UUID_BYTES
 use Rattle.xr_headers.specs.declared.layout.TheConstants.{BLOCK_CRC, GROUP_BYTES}
 use Rattle.xr_headers.specs.declared.group_head.GroupHead.{GroupHead}
 use Rattle.xr_headers.specs.Headers.{group_block, group_fields, group_in, IsGroupHead, KeepsPool}
-use Rattle.xr_headers.specs.Padded.{IsZeroPadded, with_crc, zero_padded}
+use Rattle.xr_headers.specs.Padded.{IsZeroPadded, zero_padded}
 use Rattle.xr_headers.specs.HeaderValueLaws.{group_in-group_block}
 use Rattle.xr_headers.specs.FirstWrong.{IsGroupOutOfRange, NamesGroupField}
 use Rattle.xr_headers.proofs.FirstWrongLemmas.{Finds, field_named}
 use Rattle.xr_headers.specs.ChecksumLaws.{wanted_is}
 use Rattle.xr_headers.proofs.group_head.take_group.Goals as goal
+use Rattle.xr_base.specs.Checksum.{with_crc}
 
 block : (bytes : List ℕ) (v : GroupHead) (wanted : List ℕ) → length bytes ≡ BLOCK_BYTES → IsZeroPadded GROUP_BYTES GROUP_BYTES (group_fields v) wanted
     → with_crc (length bytes - 4) (zero_padded (length bytes) wanted) ≡ group_block v

@@ -3,12 +3,13 @@ use Rattle.xr_base.specs.declared.geometry.TheConstants.{BLOCK_BYTES}
 use Rattle.xr_headers.specs.declared.layout.TheConstants.{BLOCK_CRC, SUPER_BYTES}
 use Rattle.xr_headers.specs.declared.superblock.Super.{Super}
 use Rattle.xr_headers.specs.Headers.{super_block, super_fields, super_in}
-use Rattle.xr_headers.specs.Padded.{IsZeroPadded, with_crc, zero_padded}
+use Rattle.xr_headers.specs.Padded.{IsZeroPadded, zero_padded}
 use Rattle.xr_headers.specs.HeaderValueLaws.{super_in-super_block}
 use Rattle.xr_headers.specs.FirstWrong.{NamesSuperField}
 use Rattle.xr_headers.proofs.FirstWrongLemmas.{Finds, field_named}
 use Rattle.xr_headers.specs.ChecksumLaws.{wanted_is}
 use Rattle.xr_headers.proofs.superblock.take_super.Goals as goal
+use Rattle.xr_base.specs.Checksum.{with_crc}
 
 block : (bytes : List ℕ) (v : Super) (wanted : List ℕ) → length bytes ≡ BLOCK_BYTES → IsZeroPadded SUPER_BYTES SUPER_BYTES (super_fields v) wanted
     → with_crc (length bytes - 4) (zero_padded (length bytes) wanted) ≡ super_block v

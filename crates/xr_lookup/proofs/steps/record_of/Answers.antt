@@ -3,7 +3,7 @@ use Rattle.xr_base.specs.Image.{part}
 use Rattle.xr_kinds.specs.Form.{header_size}
 use Rattle.xr_pool.specs.Overlay.{block_at}
 use Rattle.xr_block.specs.DescentLaws.{in_pool, leaf_is}
-use Rattle.xr_block.proofs.LeafLemmas.{record_read}
+use Rattle.xr_block.specs.LeafLaws.{record_read}
 use Rattle.xr_lookup.proofs.steps.record_of.Goals as goal
 
 pub block-requires : goal.block-requires

@@ -13,9 +13,9 @@ returns-in_err-entry-clause-fault c =
     let piece = c.args.piece.now in
     rw (p.1, p.2)
     (λ before es r. subst (λ (xs : List ℕ). IsFaultOf (before ++ xs) c.in_err-entry.field-0.0) (take-append-drop n piece)
-    (fails_on before es _ _ (take n piece) (drop n piece) c.in_err-entry.field-0.0 r grown.place grown.state grown.rest c.in_err-entry.ensures.fault))
+    (fails_on before es _ _ (take n piece) (drop n piece) c.in_err-entry.field-0.0 r grown.place grown.phase grown.rest c.in_err-entry.ensures.fault))
 
 pub returns-clause-reads : goal.returns-clause-reads
 returns-clause-reads c =
     let grown = c.in_ok-taken.ensures.grown in
-    settles_reads _ _ _ _ _ grown.place grown.state grown.rest c.in_ok-entry.ensures.settles
+    settles_reads _ _ _ _ _ grown.place grown.phase grown.rest c.in_ok-entry.ensures.settles

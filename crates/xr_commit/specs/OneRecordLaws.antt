@@ -1,15 +1,24 @@
 -- A sector of the log has one record, and the log one head and one chain.
-use Rattle.std.proofs.Common.{◌≡◌, ℕ, zero, suc, ◌<◌, ◌≤◌, ◌^◌, ◌∙◌, List, [], ◌∷◌, length, get_or, sym, ap, subst, inl, inr, arith}
+use Rattle.std.proofs.Common.{◌≡◌, ℕ, zero, suc, ◌-◌, ◌*◌, ◌<◌, ◌≤◌, ◌^◌, ◌∙◌, List, [], ◌∷◌, ◌++◌, length, get_or, take, sym, ap, subst, inl, inr, arith}
 use Rattle.std.proofs.lemmas.Bool.{cases_lt}
+use Rattle.std.proofs.lemmas.List.{append_assoc, take_at}
 use Rattle.xr_record.specs.declared.head.Head.{Head}
 use Rattle.xr_record.specs.declared.head.Lsn.{Lsn}
 use Rattle.xr_record.specs.Lsn.{lsn_number}
-use Rattle.xr_record.specs.Record.{IsSealed}
-use Rattle.xr_record.specs.SealedRecordLaws.{sealed_head}
+use Rattle.xr_record.specs.Record.{IsSealed, sectors_of, zeros}
+use Rattle.xr_record.specs.Unsealing.{body_in}
+use Rattle.xr_record.specs.SealedRecordLaws.{sealed_body, sealed_head}
 use Rattle.xr_commit.specs.Chain.{IsLiveTrail, IsLost, IsTrail, IsPreviousRecord}
 use Rattle.xr_commit.specs.LogRecords.{IsHead, LogRecord, StandsAt, bytes_at}
-use Rattle.xr_commit.proofs.BodyLemmas.{one_body}
-use Rattle.xr_commit.proofs.ChainLemmas.{lsn_is}
+
+body_first : (bytes : List ℕ) (head : Head) (body : List ℕ) → IsSealed bytes head body → take head.len (body_in head.len bytes) ≡ body
+body_first bytes head body s =
+    let tail = zeros (512 * sectors_of (length body) - length body) in
+    ap (take head.len) (sealed_body bytes head body s ∙ append_assoc body tail s.rest) ∙ take_at body (tail ++ s.rest) head.len s.length_is
+
+-- the body of a sealed record is told by its bytes
+pub one_body : (bytes : List ℕ) (head : Head) (body other : List ℕ) → IsSealed bytes head body → IsSealed bytes head other → body ≡ other
+one_body bytes head body other s t = sym (body_first bytes head body s) ∙ body_first bytes head other t
 
 record_is : (r s : LogRecord) → r.head ≡ s.head → r.body ≡ s.body → r ≡ s
 record_is r s p q = λ i. record { head = p i; body = q i }
@@ -19,6 +28,10 @@ one_record log sector r s one two =
     let bytes = bytes_at log sector in
     let head : r.head ≡ s.head = sym (sealed_head bytes r.head r.body one.sealed) ∙ sealed_head bytes s.head s.body two.sealed in
     record_is r s head (one_body bytes s.head r.body s.body (subst (λ (h : Head). IsSealed bytes h r.body) head one.sealed) two.sealed)
+
+-- a place in the log is told by its parts
+pub lsn_is : (a b c d : ℕ) → a ≡ b → c ≡ d → ◌≡◌ {A = Lsn} (record { cycle = a; sector = c }) (record { cycle = b; sector = d })
+lsn_is a b c d e f = cc
 
 -- places with the same number are one
 pub same_lsn : (a b : Lsn) → a.sector < 2 ^ 32 → b.sector < 2 ^ 32 → lsn_number a ≡ lsn_number b → a ≡ b
