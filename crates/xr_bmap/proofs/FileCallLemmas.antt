@@ -7,7 +7,7 @@ use Rattle.xr_block.specs.Trees.{blocks_of_tree}
 use Rattle.xr_block.specs.declared.root.Root.{Root}
 use Rattle.xr_bmap.proofs.FilePoolLemmas.{blocks_read, extents_read, free_read}
 use Rattle.xr_bmap.specs.Bmap.{PunchesIn, RemapsIn, slot_in}
-use Rattle.xr_bmap.specs.File.{ChangesFile, FileState, PunchesFile, RemapsFile, dropped_to_kept, kept_now, slot_of_file}
+use Rattle.xr_bmap.specs.File.{ChangesFile, FileState, PunchesFile, RemapsFile, slot_of_file}
 use Rattle.xr_bmap.specs.Parts.{AreFileParts, ChangesFileParts, HasFile, file_state_of}
 use Rattle.xr_bmap.specs.Slots.{IsMappedRun, IsPieceAt, mapped_in, piece_len}
 use Rattle.xr_bmap.specs.declared.bmap.Bmap.{Bmap}
@@ -15,6 +15,7 @@ use Rattle.xr_bmap.specs.declared.piece.Piece.{Piece}
 use Rattle.xr_kinds.specs.Mapping.{mapping_form}
 use Rattle.xr_kinds.specs.declared.mapping.Mapping.{Mapping}
 use Rattle.xr_maps.specs.Steps.{punched_slot, remapped_slot}
+use Rattle.xr_open.specs.PoolState.{dropped_to_kept, kept_now}
 use Rattle.xr_pool.specs.Overlay.{AreWhole, Blocks, all_dropped, all_kept, is_changed, is_free}
 use Rattle.xr_pool.specs.OverlayLaws.{changed_are_marked, none_changed}
 
@@ -65,6 +66,8 @@ module _ (file : ℕ) (uuid : List ℕ) (a b : Blocks) (s : Bmap) (before : HasF
         own))
         other))
         (parts.marked n ((changed_are_marked b n).0 found));
+    core = λ found. ⊎_elim (λ (was : is_changed a 0 ≡ true). inl ((changed_are_marked a 0).1 was)) inr (parts.differs ((changed_are_marked b 0).0 found));
+    few = parts.few;
   }
 
 module _ (file : ℕ) (uuid : List ℕ) (b : Blocks) (t : Root) (h : HasFile file uuid b t) where

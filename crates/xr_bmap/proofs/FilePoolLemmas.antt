@@ -1,8 +1,6 @@
 -- An overlay with a tree and its core is a file by its blocks, and holds its extents.
-use Rattle.std.proofs.Common.{◌≡◌, ℕ, ◌<◌, ◌≤◌, true, false, List, [], ◌∷◌, length, take, slice_index, get_or, refl, sym, ap, subst, ◌∙◌, ⊎_elim, arith}
-use Rattle.std.proofs.lemmas.Bool.{cases_Bool, cases_lt}
-use Rattle.std.proofs.lemmas.List.{get_or_default, get_or_past}
-use Rattle.std.specs.List.{Contains}
+use Rattle.std.proofs.Common.{◌≡◌, ℕ, List, [], ◌∷◌, length, take, slice_index, get_or, refl, sym, ap, subst, ◌∙◌, arith}
+use Rattle.std.proofs.lemmas.List.{get_or_default}
 use Rattle.xr_block.specs.Trees.{blocks_of_tree, records_of_tree}
 use Rattle.xr_block.specs.declared.root.Root.{Root}
 use Rattle.xr_bmap.specs.File.{AreFileStates, IsFile, core_of_blocks, extents_in, pool_of_blocks, root_of_blocks, root_of_core}
@@ -12,31 +10,16 @@ use Rattle.xr_headers.specs.Headers.{IsCore, core_block, core_in}
 use Rattle.xr_headers.specs.declared.file_core.Core.{Core}
 use Rattle.xr_headers.specs.declared.layout.TheConstants.{CORE_BYTES}
 use Rattle.xr_kinds.specs.Mapping.{mapping_form}
-use Rattle.xr_pool.specs.Overlay.{AreBlocks, AreWhole, Blocks, all_dropped, changed_blocks, is_free, no_marks}
-use Rattle.xr_pool.specs.OverlayLaws.{changed_are_marked, changed_rise}
+use Rattle.xr_open.specs.PoolState.{pool_with}
+use Rattle.xr_open.specs.PoolStateLaws.{marked_are_below, pool_same, unmarked_are_kept}
+use Rattle.xr_pool.specs.Overlay.{AreBlocks, AreWhole, Blocks, all_dropped, changed_blocks, is_free}
+use Rattle.xr_pool.specs.OverlayLaws.{changed_rise}
 use Rattle.xr_tree.specs.Room.{IsFileTree}
 
 pub one_byte : (xs : List ℕ) → length xs ≡ 1 → xs ≡ slice_index xs 0 ∷ []
 one_byte [] long = absurd (omega (arith, long))
 one_byte (x ∷ []) long = refl
 one_byte (x ∷ y ∷ rest) long = absurd (omega (arith, long))
-
-abbrev pub pool_with : List (List ℕ) → List ℕ → ℕ → ℕ → List ℕ → Blocks
-pool_with blocks free first owner uuid = record {
-  kept = blocks;
-  current = blocks;
-  changed = no_marks blocks;
-  kept_free = free;
-  free = free;
-  first = first;
-  owner = owner;
-  uuid = uuid;
-}
-
-pub pool_same : (blocks blocks' : List (List ℕ)) (free free' : List ℕ) (first first' owner owner' : ℕ) (uuid uuid' : List ℕ)
-    → blocks ≡ blocks' → free ≡ free' → first ≡ first' → owner ≡ owner' → uuid ≡ uuid'
-    → pool_with blocks free first owner uuid ≡ pool_with blocks' free' first' owner' uuid'
-pool_same blocks blocks' free free' first first' owner owner' uuid uuid' a b c d e = rw (a, b, c, d, e) refl
 
 module _ (file : ℕ) (uuid : List ℕ) (b : Blocks) (t : Root) (h : HasFile file uuid b t) where
   pub core_read : core_of_blocks file uuid b.current ≡ core_of file uuid b t
@@ -73,32 +56,15 @@ module _ (file : ℕ) (uuid : List ℕ) (b : Blocks) (t : Root) (h : HasFile fil
   pub free_read : (n : ℕ) → is_free (pool_of_blocks file uuid b.current) n ≡ is_free b n
   free_read n = ap (λ (p : Blocks). is_free p n) pool_read
 
--- what isn't marked as changed is as it was kept
-unmarked_same : (b : Blocks) → AreBlocks b → (n : ℕ) → ¬ (Contains (changed_blocks b) n) → get_or b.kept n [] ≡ get_or b.current n []
-unmarked_same b all n out = ⊎_elim
-    (λ (within : n < length b.changed). ⊎_elim
-    (λ (marked : get_or b.changed n false ≡ true). absurd (out ((changed_are_marked b n).1 marked)))
-    (λ (clear : get_or b.changed n false ≡ false). all.others n (get_or_default b.changed n true false within ∙ clear))
-    (cases_Bool (get_or b.changed n false)))
-    (λ (past : length b.changed ≤ n).
-    get_or_past b.kept n [] (omega (arith, past, all.marks, all.same_blocks)) ∙ sym (get_or_past b.current n [] (omega (arith, past, all.marks))))
-    (cases_lt n (length b.changed))
-
-marked_below : (b : Blocks) → AreBlocks b → (n : ℕ) → Contains (changed_blocks b) n → n < length b.current
-marked_below b all n found = ⊎_elim
-    (λ (within : n < length b.changed). omega (arith, within, all.marks))
-    (λ (past : length b.changed ≤ n).
-    let marked = (changed_are_marked b n).0 found in let none = get_or_past b.changed n false past in absurd cc)
-    (cases_lt n (length b.changed))
-
 pub are_states : (file : ℕ) (uuid : List ℕ) (b : Blocks) (now kept : Root) → AreFileParts file uuid b now kept → AreBlocks b → AreWhole b.current
     → AreFileStates (file_state_of file uuid b)
 are_states file uuid b now kept parts all whole = record {
+  identified = parts.now_file.place.long;
   kept_file = is_file file uuid (all_dropped b) kept parts.kept_file parts.kept_whole;
   file = is_file file uuid b now parts.now_file whole;
-  others = unmarked_same b all;
+  others = unmarked_are_kept b all;
   rising = changed_rise b;
   below = λ k d within.
       let long = parts.now_file.tree.pool in
-      omega (arith, long, marked_below b all (get_or (changed_blocks b) k d) (k, within, get_or_default (changed_blocks b) k _ d within));
+      omega (arith, long, marked_are_below b all (get_or (changed_blocks b) k d) (k, within, get_or_default (changed_blocks b) k _ d within));
 }

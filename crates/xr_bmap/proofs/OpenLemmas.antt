@@ -1,13 +1,11 @@
 -- The overlay of a file's blocks is where they stand, has their identifier, and is refused for what the blocks are refused for.
-use Rattle.std.proofs.Common.{◌≡◌, ℕ, zero, suc, ◌+◌, ◌*◌, ◌/◌, ◌<◌, ◌≤◌, List, [], ◌∷◌, ◌++◌, length, take, drop, get_or, refl, sym, ap, subst, ◌∙◌, inl, inr, arith}
+use Rattle.std.proofs.Common.{◌≡◌, ℕ, ◌+◌, ◌*◌, ◌/◌, ◌<◌, List, [], ◌∷◌, ◌++◌, length, take, get_or, refl, sym, ap, subst, ◌∙◌, inl, inr, arith}
 use Rattle.std.proofs.lemmas.Bool.Decides.{nat_tests}
-use Rattle.std.proofs.lemmas.List.{drop-take, get_or_append_left, take-take}
 use Rattle.byteorder.specs.Endian.{big_bytes}
 use Rattle.xr_base.specs.Image.{block_of, part}
 use Rattle.xr_base.specs.declared.geometry.TheConstants.{BLOCK_BYTES, FILES, FILE_BLOCKS, FIRST_INODE, UUID_BYTES}
 use Rattle.xr_block.specs.Trees.{IsTree, Marks, blocks_of_tree}
 use Rattle.xr_block.specs.declared.root.Root.{Root}
-use Rattle.xr_bmap.proofs.FilePoolLemmas.{pool_same}
 use Rattle.xr_bmap.specs.File.{HasCore, IsFile, core_of_blocks, first_of_file, pool_of_blocks, root_of_blocks, root_of_core}
 use Rattle.xr_bmap.specs.OpenFile.{RefusesFile, opened_file}
 use Rattle.xr_bmap.specs.Opening.{IsOpened, RefusesOpened}
@@ -21,6 +19,7 @@ use Rattle.xr_headers.specs.declared.codec.HeaderFault.{HeaderFault}
 use Rattle.xr_headers.specs.declared.file_core.Core.{Core}
 use Rattle.xr_headers.specs.declared.layout.TheConstants.{CORE_BYTES, CORE_CRC, CORE_MAGIC, UUID_PLACE, VERSION}
 use Rattle.xr_kinds.specs.Mapping.{mapping_form}
+use Rattle.xr_open.specs.PoolStateLaws.{first_block_is_front, parts_of_front_stay, pool_same}
 use Rattle.xr_open.specs.Marked.{AreAllMarked}
 use Rattle.xr_open.specs.MarkedLaws.{marks_add_up, marks_are_used, zeros_mark_none}
 use Rattle.xr_open.specs.declared.fault.OpenFault.{OpenFault}
@@ -32,12 +31,6 @@ use Rattle.xr_tree.specs.Room.{IsFileTree}
 pub owner_is : (file : ℕ) → file < FILES → owner_of (first_of_file file) ≡ FIRST_INODE + file
 owner_is file known = grind (arith, nat_tests)
 
-pub first_block : (n : ℕ) (bytes : List ℕ) → get_or (blocks_in (suc n) bytes) 0 [] ≡ block_of bytes 0
-unfolding blocks_in
-first_block zero bytes = refl
-first_block (suc n) bytes =
-    get_or_append_left (blocks_in (suc n) bytes) (block_of bytes (suc n) ∷ []) [] 0 (omega (arith, length-blocks_in (suc n) bytes)) ∙ first_block n bytes
-
 -- the identifier stands in the core's own bytes
 core_front : Core → List ℕ
 core_front core = words (CORE_MAGIC ∷ VERSION ∷ []) ++ big_bytes 8 core.ino
@@ -48,15 +41,11 @@ core_uuid core whole =
     read_back CORE_CRC CORE_BYTES UUID_PLACE UUID_BYTES (core_fields core) (core_front core) core.uuid (words (core_numbers core))
     refl refl whole (omega arith) (omega arith)
 
-part_of_front : (k at n : ℕ) (bytes : List ℕ) → at + n ≤ k → part at n (take k bytes) ≡ part at n bytes
-part_of_front k at n bytes fits =
-    sym (drop-take at n (take k bytes)) ∙ ap (drop at) (take-take (at + n) k bytes fits) ∙ drop-take at n bytes
-
 pub uuid_is : (bytes : List ℕ) (core : Core) → length core.uuid ≡ UUID_BYTES → block_of bytes 0 ≡ core_block core → part UUID_PLACE UUID_BYTES bytes ≡ core.uuid
 uuid_is bytes core whole is =
-    sym (part_of_front BLOCK_BYTES UUID_PLACE UUID_BYTES bytes (omega arith))
+    sym (parts_of_front_stay BLOCK_BYTES UUID_PLACE UUID_BYTES bytes (omega arith))
     ∙ ap (part UUID_PLACE UUID_BYTES) is
-    ∙ sym (part_of_front CORE_BYTES UUID_PLACE UUID_BYTES (core_block core) (omega arith))
+    ∙ sym (parts_of_front_stay CORE_BYTES UUID_PLACE UUID_BYTES (core_block core) (omega arith))
     ∙ ap (part UUID_PLACE UUID_BYTES) (take-core_block core)
     ∙ core_uuid core whole
 
@@ -66,7 +55,7 @@ pub core_refused : (file : ℕ) (uuid bytes front : List ℕ) (fault : HeaderFau
     → ((v : Core) → IsCore v → v.ino ≡ FIRST_INODE + file → v.uuid ≡ uuid → front ≡ core_block v → ⊥)
     → RefusesFile file uuid (blocks_in FILE_BLOCKS bytes) (Header fault)
 core_refused file uuid bytes front fault is_front place named never =
-    let zero : front ≡ get_or (blocks_in FILE_BLOCKS bytes) 0 [] = is_front ∙ sym (first_block 7 bytes) in (
+    let zero : front ≡ get_or (blocks_in FILE_BLOCKS bytes) 0 [] = is_front ∙ sym (first_block_is_front 7 bytes) in (
       place,
       inl (record {
         none = λ has. never (core_of_blocks file uuid (blocks_in FILE_BLOCKS bytes)) has.valid refl refl (zero ∙ has.core);
@@ -82,7 +71,7 @@ module _ (file : ℕ) (uuid bytes front : List ℕ) (core : Core) (known : file 
   blocks = blocks_in FILE_BLOCKS bytes
 
   zero_read : get_or blocks 0 [] ≡ core_block core
-  zero_read = first_block 7 bytes ∙ sym is_front ∙ right.3
+  zero_read = first_block_is_front 7 bytes ∙ sym is_front ∙ right.3
 
   whole_uuid : length core.uuid ≡ UUID_BYTES
   whole_uuid = ap length right.2 ∙ long

@@ -1,24 +1,17 @@
 -- What is mapped at an offset where extents become one, and where one is cut.
-use Rattle.std.proofs.Common.{◌≡◌, ℕ, ◌+◌, ◌-◌, ◌<◌, ◌≤◌, true, false, Option, Some, refl, sym, ap, ◌∙◌, ⊎_elim, arith}
+use Rattle.std.proofs.Common.{◌≡◌, ℕ, ◌+◌, ◌-◌, ◌<◌, ◌≤◌, true, Option, Some, refl, sym, ap, ◌∙◌, ⊎_elim, arith}
 use Rattle.std.proofs.lemmas.Bool.{cases_lt}
 use Rattle.std.proofs.lemmas.Bool.Decides.{nat_tests}
 use Rattle.xr_base.specs.Address.{address_of}
 use Rattle.xr_base.specs.declared.address.Addr.{Addr}
-use Rattle.xr_bmap.specs.SlotLaws.{block_at_offset, is_inside}
+use Rattle.xr_bmap.specs.ExtentListLaws.{address_same}
+use Rattle.xr_bmap.specs.SlotLaws.{block_at_offset}
 use Rattle.xr_bmap.specs.Joins.{IsPartOfExtent}
 use Rattle.xr_bmap.specs.Slots.{HasOffset}
 use Rattle.xr_kinds.specs.Mapping.{runs_on}
 use Rattle.xr_kinds.specs.declared.mapping.Mapping.{Mapping}
-use Rattle.xr_maps.specs.Steps.{is_within, punched_slot, remapped_slot}
-
-some_address : (m n : ℕ) → m ≡ n → Some (address_of m) ≡ Some (address_of n)
-some_address m n same = rw same refl
-
-pub is_below : (off len o : ℕ) → o < off → is_within off len o ≡ false
-is_below off len o below = grind (arith, nat_tests)
-
-pub is_past : (off len o : ℕ) → off + len ≤ o → is_within off len o ≡ false
-is_past off len o past = grind (arith, nat_tests)
+use Rattle.xr_maps.specs.StepLaws.{above_range, below_range, in_range}
+use Rattle.xr_maps.specs.Steps.{punched_slot, remapped_slot}
 
 pub places : (x r : Mapping) → runs_on x r ≡ true → (x.off + x.len ≡ r.off) × (x.at + x.len ≡ r.at)
 places x r on = (grind (arith, nat_tests), grind (arith, nat_tests))
@@ -30,17 +23,17 @@ module _ (x r : Mapping) (on : runs_on x r ≡ true) (o : ℕ) (s : Option Addr)
   joins_left known =
       let at = places x r on in
       ⊎_elim
-      (λ (low : o < x.off). rw (is_below x.off (x.len + r.len) o low, is_below x.off x.len o low, is_below r.off r.len o (omega (arith, at.0, low))) refl)
+      (λ (low : o < x.off). rw (below_range x.off (x.len + r.len) o low, below_range x.off x.len o low, below_range r.off r.len o (omega (arith, at.0, low))) refl)
       (λ (from : x.off ≤ o). ⊎_elim
       (λ (first : o < x.off + x.len).
-      rw (is_inside x.off (x.len + r.len) o from (omega (arith, first)), is_below r.off r.len o (omega (arith, at.0, first)))
-      (sym (known (is_inside x.off x.len o from first))))
+      rw (in_range x.off (x.len + r.len) o from (omega (arith, first)), below_range r.off r.len o (omega (arith, at.0, first)))
+      (sym (known (in_range x.off x.len o from first))))
       (λ (past : x.off + x.len ≤ o). ⊎_elim
       (λ (second : o < r.off + r.len).
-      rw (is_inside x.off (x.len + r.len) o from (omega (arith, at.0, second)), is_inside r.off r.len o (omega (arith, at.0, past)) second)
-      (some_address (x.at + (o - x.off)) (r.at + (o - r.off)) (omega (arith, at.0, at.1, past))))
+      rw (in_range x.off (x.len + r.len) o from (omega (arith, at.0, second)), in_range r.off r.len o (omega (arith, at.0, past)) second)
+      (address_same (x.at + (o - x.off)) (r.at + (o - r.off)) (omega (arith, at.0, at.1, past))))
       (λ (behind : r.off + r.len ≤ o).
-      rw (is_past x.off (x.len + r.len) o (omega (arith, at.0, behind)), is_past x.off x.len o past, is_past r.off r.len o behind) refl)
+      rw (above_range x.off (x.len + r.len) o (omega (arith, at.0, behind)), above_range x.off x.len o past, above_range r.off r.len o behind) refl)
       (cases_lt o (r.off + r.len)))
       (cases_lt o (x.off + x.len)))
       (cases_lt o x.off)
@@ -51,16 +44,16 @@ module _ (x r : Mapping) (on : runs_on x r ≡ true) (o : ℕ) (s : Option Addr)
   joins_right known =
       let at = places x r on in
       ⊎_elim
-      (λ (low : o < x.off). rw (is_below x.off (x.len + r.len) o low, is_below x.off x.len o low, is_below r.off r.len o (omega (arith, at.0, low))) refl)
+      (λ (low : o < x.off). rw (below_range x.off (x.len + r.len) o low, below_range x.off x.len o low, below_range r.off r.len o (omega (arith, at.0, low))) refl)
       (λ (from : x.off ≤ o). ⊎_elim
-      (λ (first : o < x.off + x.len). rw (is_inside x.off (x.len + r.len) o from (omega (arith, first)), is_inside x.off x.len o from first) refl)
+      (λ (first : o < x.off + x.len). rw (in_range x.off (x.len + r.len) o from (omega (arith, first)), in_range x.off x.len o from first) refl)
       (λ (past : x.off + x.len ≤ o). ⊎_elim
       (λ (second : o < r.off + r.len).
-      let is = known (is_inside r.off r.len o (omega (arith, at.0, past)) second) in
-      rw (is_inside x.off (x.len + r.len) o from (omega (arith, at.0, second)), is_past x.off x.len o past, is)
-      (some_address (x.at + (o - x.off)) (r.at + (o - r.off)) (omega (arith, at.0, at.1, past))))
+      let is = known (in_range r.off r.len o (omega (arith, at.0, past)) second) in
+      rw (in_range x.off (x.len + r.len) o from (omega (arith, at.0, second)), above_range x.off x.len o past, is)
+      (address_same (x.at + (o - x.off)) (r.at + (o - r.off)) (omega (arith, at.0, at.1, past))))
       (λ (behind : r.off + r.len ≤ o).
-      rw (is_past x.off (x.len + r.len) o (omega (arith, at.0, behind)), is_past x.off x.len o past, is_past r.off r.len o behind) refl)
+      rw (above_range x.off (x.len + r.len) o (omega (arith, at.0, behind)), above_range x.off x.len o past, above_range r.off r.len o behind) refl)
       (cases_lt o (r.off + r.len)))
       (cases_lt o (x.off + x.len)))
       (cases_lt o x.off)
@@ -71,16 +64,16 @@ module _ (whole : Mapping) (o : ℕ) (s : Option Addr) (known : HasOffset whole 
       → remapped_slot whole.off len (address_of whole.at) o (punched_slot whole.off whole.len o s) ≡ punched_slot (whole.off + len) (whole.len - len) o s
   leaves_front len fits = ⊎_elim
       (λ (low : o < whole.off).
-      rw (is_below whole.off len o low, is_below whole.off whole.len o low, is_below (whole.off + len) (whole.len - len) o (omega (arith, low))) refl)
+      rw (below_range whole.off len o low, below_range whole.off whole.len o low, below_range (whole.off + len) (whole.len - len) o (omega (arith, low))) refl)
       (λ (from : whole.off ≤ o). ⊎_elim
       (λ (first : o < whole.off + len).
-      rw (is_inside whole.off len o from first, is_below (whole.off + len) (whole.len - len) o first)
-      (sym (known (is_inside whole.off whole.len o from (omega (arith, first, fits))))))
+      rw (in_range whole.off len o from first, below_range (whole.off + len) (whole.len - len) o first)
+      (sym (known (in_range whole.off whole.len o from (omega (arith, first, fits))))))
       (λ (past : whole.off + len ≤ o). ⊎_elim
       (λ (gone : o < whole.off + whole.len).
-      rw (is_past whole.off len o past, is_inside whole.off whole.len o from gone, is_inside (whole.off + len) (whole.len - len) o past (omega (arith, gone, fits))) refl)
+      rw (above_range whole.off len o past, in_range whole.off whole.len o from gone, in_range (whole.off + len) (whole.len - len) o past (omega (arith, gone, fits))) refl)
       (λ (behind : whole.off + whole.len ≤ o).
-      rw (is_past whole.off len o past, is_past whole.off whole.len o behind, is_past (whole.off + len) (whole.len - len) o (omega (arith, behind, fits))) refl)
+      rw (above_range whole.off len o past, above_range whole.off whole.len o behind, above_range (whole.off + len) (whole.len - len) o (omega (arith, behind, fits))) refl)
       (cases_lt o (whole.off + whole.len)))
       (cases_lt o (whole.off + len)))
       (cases_lt o whole.off)
@@ -95,16 +88,16 @@ module _ (whole : Mapping) (o : ℕ) (s : Option Addr) (known : HasOffset whole 
       let rest : ℕ = whole.off + whole.len - (off + len) in
       let tail : ℕ = whole.off + whole.len - off in
       ⊎_elim
-      (λ (low : o < off). rw (is_below (off + len) rest o (omega (arith, low)), is_below off tail o low, is_below off len o low) refl)
+      (λ (low : o < off). rw (below_range (off + len) rest o (omega (arith, low)), below_range off tail o low, below_range off len o low) refl)
       (λ (above : off ≤ o). ⊎_elim
-      (λ (gone : o < off + len). rw (is_below (off + len) rest o gone, is_inside off tail o above (omega (arith, gone, up_to)), is_inside off len o above gone) refl)
+      (λ (gone : o < off + len). rw (below_range (off + len) rest o gone, in_range off tail o above (omega (arith, gone, up_to)), in_range off len o above gone) refl)
       (λ (past : off + len ≤ o). ⊎_elim
       (λ (kept : o < whole.off + whole.len).
-      let is = known (is_inside whole.off whole.len o (omega (arith, from, above)) kept) in
-      rw (is_inside (off + len) rest o past (omega (arith, kept, up_to)), is_past off len o past, is)
-      (some_address (whole.at + (off + len - whole.off) + (o - (off + len))) (whole.at + (o - whole.off)) (omega (arith, past, from))))
+      let is = known (in_range whole.off whole.len o (omega (arith, from, above)) kept) in
+      rw (in_range (off + len) rest o past (omega (arith, kept, up_to)), above_range off len o past, is)
+      (address_same (whole.at + (off + len - whole.off) + (o - (off + len))) (whole.at + (o - whole.off)) (omega (arith, past, from))))
       (λ (behind : whole.off + whole.len ≤ o).
-      rw (is_past (off + len) rest o (omega (arith, behind, up_to)), is_past off tail o (omega (arith, behind, up_to)), is_past off len o past) refl)
+      rw (above_range (off + len) rest o (omega (arith, behind, up_to)), above_range off tail o (omega (arith, behind, up_to)), above_range off len o past) refl)
       (cases_lt o (whole.off + whole.len)))
       (cases_lt o (off + len)))
       (cases_lt o off)

@@ -39,7 +39,7 @@ some_offsets r good = grind (arith, nat_tests)
 goes_behind : (a b : Mapping) → is_mapping a ≡ true → is_mapping b ≡ true → mapping_form.order a b ≡ Less → mapping_form.agree a b ≡ true → a.off + a.len ≤ b.off
 goes_behind a b one other less agree = grind (arith, nat_tests)
 
-address_same : (m n : ℕ) → m ≡ n → Some (address_of m) ≡ Some (address_of n)
+pub address_same : (m n : ℕ) → m ≡ n → Some (address_of m) ≡ Some (address_of n)
 address_same m n same = ap (λ (k : ℕ). Some (address_of k)) same
 
 next_same : (a b : Addr) → Some a ≡ Some b → Some (address_after a 1) ≡ Some (address_after b 1)

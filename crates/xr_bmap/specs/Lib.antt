@@ -5,7 +5,10 @@ pub mod File
 pub mod FreshFile
 pub mod FreshFileLaws
 pub mod Joins
+pub mod MappedBlockLaws
+pub mod MappedBlocks
 pub mod OpenFile
+pub mod OpenFileLaws
 pub mod Opening
 pub mod Parts
 pub mod PieceLaws

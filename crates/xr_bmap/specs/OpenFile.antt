@@ -1,9 +1,9 @@
 -- How a file is opened, and why some blocks are none.
-use Rattle.std.specs.Prelude.{◌≡◌, ◌⊎◌, ⊤, ℕ, List, slice_index_or, [], ◌∷◌}
+use Rattle.std.specs.Prelude.{◌≡◌, ◌≢◌, ◌⊎◌, ⊤, ℕ, List, slice_index_or, [], ◌∷◌}
 use Rattle.xr_base.specs.declared.geometry.TheConstants.{FILE_BLOCKS}
 use Rattle.xr_block.specs.Trees.{IsTree, blocks_of_tree}
 use Rattle.xr_block.specs.declared.fault.TreeFault.{TreeFault}
-use Rattle.xr_bmap.specs.File.{FileState, HasCore, core_of_blocks, first_of_file, pool_of_blocks, root_of_blocks}
+use Rattle.xr_bmap.specs.File.{FileState, HasCore, IsFile, core_of_blocks, first_of_file, pool_of_blocks, root_of_blocks}
 use Rattle.xr_headers.specs.FirstWrong.{NamesCoreBlockField}
 use Rattle.xr_headers.specs.declared.layout.TheConstants.{CORE_FREE_PLACE}
 use Rattle.xr_kinds.specs.Mapping.{mapping_form}
@@ -54,3 +54,9 @@ RefusesFile file uuid blocks NoMemory = ⊤
 RefusesFile file uuid blocks (Tree fault) = RefusesFileTree file uuid blocks fault
 RefusesFile file uuid blocks (Header fault) =
     (fault.block ≡ first_of_file file) × (RefusesCore file uuid blocks fault.field ⊎ RefusesParting file uuid blocks fault.field)
+
+-- what is refused for its blocks is no file
+abbrev pub RefusedAreNoFiles : Type 0
+RefusedAreNoFiles =
+    (file : ℕ) (uuid : List ℕ) (blocks : List (List ℕ)) (fault : OpenFault) → fault ≢ NoMemory → RefusesFile file uuid blocks fault
+    → ¬ (IsFile file uuid blocks)

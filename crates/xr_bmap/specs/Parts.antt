@@ -1,8 +1,8 @@
 -- Of no public contract.
 -- A file as its overlay and the root of its tree.
-use Rattle.std.specs.Prelude.{◌≡◌, ◌⊎◌, ℕ, ◌+◌, ◌<◌, true, false, List, length, slice_index}
+use Rattle.std.specs.Prelude.{◌≡◌, ◌≢◌, ◌⊎◌, ℕ, ◌+◌, ◌<◌, ◌≤◌, true, false, List, length, slice_index}
 use Rattle.std.specs.List.{Contains}
-use Rattle.xr_base.specs.declared.geometry.TheConstants.{FILES, FIRST_INODE, UUID_BYTES}
+use Rattle.xr_base.specs.declared.geometry.TheConstants.{FILES, FILE_BLOCKS, FIRST_INODE, UUID_BYTES}
 use Rattle.xr_block.specs.Trees.{blocks_of_tree, records_of_tree}
 use Rattle.xr_block.specs.declared.root.Root.{Root}
 use Rattle.xr_bmap.specs.File.{FileState, first_of_file}
@@ -47,17 +47,23 @@ pub record HasOldCore (file : ℕ) (uuid : List ℕ) (b : Blocks) (t : Root) (be
   pub place : HasFilePlace file uuid b
   pub tree : IsFileTree b t
   pub own_block : is_free b 0 ≡ false
+  pub valid : IsCore before
+  pub identified : length before.uuid ≡ UUID_BYTES
   pub core : block_at b 0 ≡ core_block before
 
--- only block 0 is another one
+-- only block 0 may be another one, and it is marked only where it is
 pub record CoreWritten (a b : Blocks) (t : Root) : Type 0 where
   pub same_records : records_of_tree mapping_form b t ≡ records_of_tree mapping_form a t
   pub kept : b.kept ≡ a.kept
   pub dropped : all_dropped b ≡ all_dropped a
+  pub marks : length b.changed ≡ length a.changed
   pub marked : (n : ℕ) → is_changed b n ≡ true → (is_changed a n ≡ true) ⊎ (n ≡ 0)
+  pub differs : is_changed b 0 ≡ true → (is_changed a 0 ≡ true) ⊎ (block_at b 0 ≢ block_at a 0)
 
 -- a change of the tree with its core
 pub record ChangesFileParts (a : Blocks) (old : Root) (b : Blocks) : Type 0 where
   pub kept : b.kept ≡ a.kept
   pub dropped : all_dropped b ≡ all_dropped a
   pub marked : (n : ℕ) → is_changed b n ≡ true → (is_changed a n ≡ true) ⊎ (n ≡ 0) ⊎ Contains (blocks_of_tree mapping_form a old) n ⊎ (is_free a n ≡ true)
+  pub differs : is_changed b 0 ≡ true → (is_changed a 0 ≡ true) ⊎ (block_at b 0 ≢ block_at a 0)
+  pub few : length (changed_blocks b) ≤ FILE_BLOCKS

@@ -15,9 +15,6 @@ use Rattle.xr_kinds.specs.MappingLaws.{is_mapping_form}
 use Rattle.xr_kinds.specs.declared.mapping.Mapping.{Mapping}
 use Rattle.xr_maps.specs.Steps.{is_within, punched_slot, remapped_slot}
 
-pub is_inside : (off len o : ℕ) → off ≤ o → o < off + len → is_within off len o ≡ true
-is_inside off len o from below = grind (arith, nat_tests)
-
 pub bounds : (off len o : ℕ) → is_within off len o ≡ true → (off ≤ o) × (o < off + len)
 bounds off len o within = (grind (arith, nat_tests), grind (arith, nat_tests))
 

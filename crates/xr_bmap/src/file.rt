@@ -1,10 +1,14 @@
 //! A file: its core and the tree of its extents, as they are now and as they were last kept.
-ghost use Rattle.std.specs.Prelude.{◌≡◌, ℕ, ◌+◌, ◌*◌, ◌<◌, ◌≤◌, length, slice_index, slice_index_or, vec_len, IfErr, IfOk, []};
+ghost use Rattle.std.specs.Prelude.{◌≡◌, ℕ, ◌+◌, ◌*◌, ◌<◌, ◌≤◌, length, slice_index, slice_index_or};
+ghost use Rattle.std.specs.Prelude.{vec_len, IfErr, IfOk, []};
 ghost use Rattle.xr_base.specs.Address.{IsGoodRun};
+ghost use Rattle.xr_base.specs.declared.address.Addr.{Addr};
 ghost use Rattle.xr_base.specs.declared.geometry.TheConstants.{BLOCK_BYTES, FILES, FILE_BLOCKS, OFFSETS};
-ghost use Rattle.xr_bmap.specs.File.{AreFileStates, ChangesFile, IsFile, PunchesFile, RemapsFile, dropped_to_kept, first_of_file, kept_now, slot_of_file};
+ghost use Rattle.xr_bmap.specs.File.{AreFileStates, ChangesFile, IsFile, PunchesFile, RemapsFile, first_of_file, slot_of_file};
 ghost use Rattle.xr_bmap.specs.OpenFile.{RefusesFile, opened_file};
 ghost use Rattle.xr_bmap.specs.Slots.{IsHole, IsMappedRun, IsPieceAt};
+ghost use Rattle.xr_bmap.specs.declared.piece.Piece.TheVariants.{Mapped};
+ghost use Rattle.xr_open.specs.PoolState.{dropped_to_kept, kept_now};
 ghost use Rattle.xr_pool.specs.Overlay.{blocks_in};
 
 use crate::bmap::Bmap;
@@ -79,7 +83,8 @@ impl File {
     pub fn lookup(&self, off: u32, max: u32) -> Piece
         requires some { 1 ≤ max }
         requires within { off + max ≤ OFFSETS }
-        ensures { IsPieceAt (slot_of_file self.now) off max result }
+        ensures piece { IsPieceAt (slot_of_file self.now) off max result }
+        ensures good { (at : Addr) (len : ℕ) → result ≡ Mapped at len → IsGoodRun (record { start = at; len = len }) }
     {
         self.bmap.lookup(&self.over, off, max)
     }

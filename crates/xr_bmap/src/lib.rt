@@ -13,6 +13,9 @@ mod piece;
 mod tests;
 
 pub use file::File;
-pub use laws::{extents_follow_from_map, fresh_files_are_empty, pieces_say_what_is_there};
+pub use laws::{
+    extents_follow_from_map, fresh_files_are_empty, mapped_blocks_are_data,
+    pieces_say_what_is_there, refused_are_no_files,
+};
 pub use piece::Piece;
 pub use xr_open::OpenFault;

@@ -1,8 +1,11 @@
 //! Which extents stand at an offset, in front of it and behind it.
-ghost use Rattle.std.specs.Prelude.{◌≡◌, ◌+◌, ◌<◌, ◌≤◌, true, false, IsNone, IfSome};
+ghost use Rattle.std.specs.Prelude.{◌≡◌, ℕ, ◌+◌, ◌<◌, ◌≤◌, true, false, IsNone, IfSome};
+ghost use Rattle.xr_base.specs.Address.{IsGoodRun};
+ghost use Rattle.xr_base.specs.declared.address.Addr.{Addr};
 ghost use Rattle.xr_base.specs.declared.geometry.TheConstants.{OFFSETS};
 ghost use Rattle.xr_bmap.specs.Bmap.{IsBmap, IsExtent, slot_in};
 ghost use Rattle.xr_bmap.specs.Slots.{IsHole, IsPieceAt, HasOffset};
+ghost use Rattle.xr_bmap.specs.declared.piece.Piece.TheVariants.{Mapped};
 ghost use Rattle.xr_kinds.specs.Mapping.{is_mapping, runs_on};
 
 use crate::bmap::Bmap;
@@ -63,7 +66,8 @@ impl Bmap {
         requires tree { IsBmap over.now self.now }
         requires some { 1 ≤ most }
         requires within { off + most ≤ OFFSETS }
-        ensures { IsPieceAt (slot_in over.now self.now) off most result }
+        ensures piece { IsPieceAt (slot_in over.now self.now) off most result }
+        ensures good { (at : Addr) (len : ℕ) → result ≡ Mapped at len → IsGoodRun (record { start = at; len = len }) }
     {
         match self.holder_of(over, off) {
             None => Piece::Hole {

@@ -9,7 +9,7 @@ use Rattle.xr_base.specs.declared.address.Run.{Run}
 use Rattle.xr_base.specs.declared.geometry.TheConstants.{GROUP_BLOCKS}
 use Rattle.xr_group.proofs.GroupPoolLemmas.{records_read}
 use Rattle.xr_group.specs.Group.{IsRunOf, records_now}
-use Rattle.xr_group.specs.Parts.{HasGroup, state_of}
+use Rattle.xr_group.specs.Parts.{HasGroup, group_state_of}
 use Rattle.xr_group.specs.Sets.{AddsPairs, HasNoPairOf, HasPairsOf, RemovesPairs, has_pair, is_run_pair, says_pair, group_span}
 use Rattle.xr_group.specs.Trees.{GroupRecords}
 use Rattle.xr_group.specs.declared.trees.Trees.{Trees}
@@ -99,36 +99,36 @@ module _ (run : Run) (owner off : ℕ) (good : IsGoodRun run) (w o a : ℕ) wher
 
 -- the pairs of a group
 module _ (b : Blocks) (t : Trees) (h : HasGroup b t) (w o a : ℕ) where
-  records_same : (records_now (state_of b)).reverse ≡ owner_records b t.rmap
+  records_same : (records_now (group_state_of b)).reverse ≡ owner_records b t.rmap
   records_same = ap (λ (x : GroupRecords). x.reverse) (records_read b t h)
 
   abbrev says : Reverse → Bool
   says r = says_pair r w o (block_in a)
 
-  pub pair_is : has_pair (state_of b) w o a ≡ true → (a / GROUP_BLOCKS ≡ b.owner) × HasPair b t.rmap w o (block_in a)
+  pub pair_is : has_pair (group_state_of b) w o a ≡ true → (a / GROUP_BLOCKS ≡ b.owner) × HasPair b t.rmap w o (block_in a)
   pair_is is =
-      let any : list_any says (records_now (state_of b)).reverse ≡ true = grind (arith, nat_tests) in
+      let any : list_any says (records_now (group_state_of b)).reverse ≡ true = grind (arith, nat_tests) in
       let here : a / GROUP_BLOCKS ≡ b.owner = grind (arith, nat_tests) in
       let found = Any-from_list_any says (owner_records b t.rmap) (subst (λ (xs : List Reverse). list_any says xs ≡ true) records_same any) in
       (here, (found.1, (found.0, found.2, found.3), says_is found.1 w o (block_in a) found.4))
 
-  pub is_pair_of : a / GROUP_BLOCKS ≡ b.owner → HasPair b t.rmap w o (block_in a) → has_pair (state_of b) w o a ≡ true
+  pub is_pair_of : a / GROUP_BLOCKS ≡ b.owner → HasPair b t.rmap w o (block_in a) → has_pair (group_state_of b) w o a ≡ true
   is_pair_of here (r, held, is) =
       let test : says r ≡ true = pair_says r w o (block_in a) is in
       let any : list_any says (owner_records b t.rmap) ≡ true =
       list_any_at says (owner_records b t.rmap) held.0 r held.1 (subst (λ (x : Reverse). says x ≡ true) (sym held.2) test) in
-      let all : list_any says (records_now (state_of b)).reverse ≡ true = subst (λ (xs : List Reverse). list_any says xs ≡ true) (sym records_same) any in
+      let all : list_any says (records_now (group_state_of b)).reverse ≡ true = subst (λ (xs : List Reverse). list_any says xs ≡ true) (sym records_same) any in
       grind (arith, nat_tests, here, all)
 
-module _ (run : Run) (owner off : ℕ) (a : Blocks) (s : Trees) (before : HasGroup a s) (mine : IsRunOf (state_of a) run) where
-  pub none_read : HasNoPairOf (state_of a) run owner off → HasNoneOf a s.rmap (owned_run (group_span run) owner off)
+module _ (run : Run) (owner off : ℕ) (a : Blocks) (s : Trees) (before : HasGroup a s) (mine : IsRunOf (group_state_of a) run) where
+  pub none_read : HasNoPairOf (group_state_of a) run owner off → HasNoneOf a s.rmap (owned_run (group_span run) owner off)
   none_read none w o n is held =
       let at = block_of_number run mine.good n is.from is.below in
       let test = pair_in_run run owner off mine.good w o at.0 at.2 (rw at.1 is) in
       let has = is_pair_of a s before w o at.0 (at.2 ∙ mine.here) (rw at.1 held) in
       let out = none w o at.0 test in absurd cc
 
-  pub all_read : HasPairsOf (state_of a) run owner off → HasAllOf a s.rmap (owned_run (group_span run) owner off)
+  pub all_read : HasPairsOf (group_state_of a) run owner off → HasAllOf a s.rmap (owned_run (group_span run) owner off)
   all_read all w o n is =
       let at = block_of_number run mine.good n is.from is.below in
       let test = pair_in_run run owner off mine.good w o at.0 at.2 (rw at.1 is) in
@@ -139,7 +139,7 @@ module _ (run : Run) (owner off : ℕ) (a : Blocks) (s : Trees) (before : HasGro
     in_run : (w o x : ℕ) → is_run_pair run owner off w o x ≡ true → (x / GROUP_BLOCKS ≡ b.owner) × IsPair (owned_run (group_span run) owner off) w o (block_in x)
     in_run w o x is = let both = run_pair_is run owner off mine.good w o x is in (both.0 ∙ mine.here ∙ sym same, both.1)
 
-    pub adds_read : GainsPairsOf (owned_run (group_span run) owner off) a s.rmap b t.rmap → AddsPairs run owner off (state_of a) (state_of b)
+    pub adds_read : GainsPairsOf (owned_run (group_span run) owner off) a s.rmap b t.rmap → AddsPairs run owner off (group_state_of a) (group_state_of b)
     adds_read gains w o x = same_test _ _
         (λ now.
         let has = pair_is b t after w o x now in
@@ -149,13 +149,13 @@ module _ (run : Run) (owner off : ℕ) (a : Blocks) (s : Trees) (before : HasGro
         let test = pair_in_run run owner off mine.good w o x (has.0 ∙ same ∙ sym mine.here) new in grind (arith, test))
         ((gains w o (block_in x)).0 has.1))
         (λ either. ⊎_elim
-        (λ (old : has_pair (state_of a) w o x ≡ true).
+        (λ (old : has_pair (group_state_of a) w o x ≡ true).
         let was = pair_is a s before w o x old in is_pair_of b t after w o x (was.0 ∙ sym same) ((gains w o (block_in x)).1 (inl was.1)))
-        (λ (out : has_pair (state_of a) w o x ≡ false).
+        (λ (out : has_pair (group_state_of a) w o x ≡ false).
         let new = in_run w o x (grind (arith, either, out)) in is_pair_of b t after w o x new.0 ((gains w o (block_in x)).1 (inr new.1)))
-        (cases_Bool (has_pair (state_of a) w o x)))
+        (cases_Bool (has_pair (group_state_of a) w o x)))
 
-    pub removes_read : LosesPairsOf (owned_run (group_span run) owner off) a s.rmap b t.rmap → RemovesPairs run owner off (state_of a) (state_of b)
+    pub removes_read : LosesPairsOf (owned_run (group_span run) owner off) a s.rmap b t.rmap → RemovesPairs run owner off (group_state_of a) (group_state_of b)
     removes_read loses w o x = same_test _ _
         (λ now.
         let has = pair_is b t after w o x now in

@@ -2,10 +2,10 @@
 use Rattle.std.proofs.Common.{◌≡◌, ◌≢◌, ◌⊎◌, ◌↔◌, ℕ, zero, suc, ◌+◌, ◌≤◌, true, List, length, refl, sym, ap, subst, ◌∙◌, inl, inr, ⊎_elim, arith}
 use Rattle.std.specs.List.{Contains}
 use Rattle.xr_change.specs.TreeSteps.{IsTreeStep}
-use Rattle.xr_group.proofs.GroupPoolLemmas.{free_read, part_read, pool_same, records_read, trees_at_rest}
-use Rattle.xr_group.proofs.PartLemmas.{same_elsewhere, same_first, same_owner, same_uuid}
-use Rattle.xr_group.specs.Group.{ChangesGroup, dropped_to_kept, kept_now, records_now}
-use Rattle.xr_group.specs.Parts.{AreGroupParts, ChangesPart, ChangesParts, HasGroup, HaveSameRoots, WritesHead, state_of}
+use Rattle.xr_group.proofs.GroupPoolLemmas.{free_read, part_read, records_read, trees_at_rest}
+use Rattle.xr_group.proofs.PartLemmas.{same_elsewhere, same_first, same_owner, same_uuid, zero_stays, zero_unmarked}
+use Rattle.xr_group.specs.Group.{ChangesGroup, records_now}
+use Rattle.xr_group.specs.Parts.{AreGroupParts, ChangesPart, ChangesParts, HasGroup, HaveSameRoots, WritesHead, group_state_of}
 use Rattle.xr_group.specs.Trees.{AreSameElsewhere, AreSameIn, GroupRecords, counts_part, free_part, owners_part, parts_of, records_of_trees}
 use Rattle.xr_kinds.specs.FreeRuns.{by_block}
 use Rattle.xr_kinds.specs.Spans.{IsIn}
@@ -17,7 +17,9 @@ use Rattle.xr_block.specs.Frame.{ChangesOnly}
 use Rattle.xr_group.specs.declared.trees.Trees.{Trees}
 use Rattle.xr_kinds.specs.Reverse.{reverse_form}
 use Rattle.xr_kinds.specs.declared.reverse.Reverse.{Reverse}
-use Rattle.xr_pool.specs.Overlay.{AreWhole, Blocks, all_dropped, all_kept, changed_blocks, is_changed, is_free}
+use Rattle.xr_open.specs.PoolState.{dropped_to_kept, kept_now}
+use Rattle.xr_open.specs.PoolStateLaws.{pool_same}
+use Rattle.xr_pool.specs.Overlay.{AreWhole, Blocks, all_dropped, all_kept, block_at, changed_blocks, is_changed, is_free}
 use Rattle.xr_pool.specs.OverlayLaws.{changed_are_marked, none_changed}
 use Rattle.xr_refcount.specs.Refcount.{IsReferenceStep, reference_records}
 use Rattle.xr_refcount.specs.declared.refcount.Refcount.{Refcount}
@@ -74,6 +76,11 @@ module _ (k writes : ℕ) (a : Blocks) (s : Trees) (b : Blocks) (t : Trees) (h :
         (change.frame.marked n before))
         (λ (zero : n ≡ 0). inr (inl zero))
         (written.marked n is);
+    head = λ is. ⊎_elim
+        (λ (before : is_changed b 0 ≡ true). inl (zero_unmarked k writes a s b t h change before))
+        (λ (other : block_at c 0 ≢ block_at b 0).
+        let stay = zero_stays k writes a s b t h change in inr (λ same. other (same ∙ sym stay.0)))
+        (written.head is);
   }
 
 -- and the pairs stay where the header is written
@@ -112,13 +119,13 @@ module _ (b c : Blocks) (t : Trees) (written : WritesHead b c t) where
 
 -- the change as it is seen
 pub changes_read : (k writes : ℕ) (a : Blocks) (s : Trees) (b : Blocks) (t : Trees) → HasGroup a s → HasGroup b t → ChangesParts k writes a s b t
-    → ChangesGroup k writes (state_of a) (state_of b)
+    → ChangesGroup k writes (group_state_of a) (group_state_of b)
 changes_read k writes a s b t before after parts = record {
   number = parts.same_owner;
   uuid = parts.same_uuid;
   kept = parts.kept;
   others = λ i differ.
-      subst (λ (x : GroupRecords). AreSameIn i x (records_now (state_of b))) (sym (records_read a s before))
+      subst (λ (x : GroupRecords). AreSameIn i x (records_now (group_state_of b))) (sym (records_read a s before))
       (subst (λ (x : GroupRecords). AreSameIn i (records_of_trees a s) x) (sym (records_read b t after)) (parts.others i differ));
   few = parts.few;
   marked = λ n found. ⊎_elim
@@ -130,6 +137,10 @@ changes_read k writes a s b t before after parts = record {
       own))
       other))
       (parts.marked n ((changed_are_marked b n).0 found));
+  head = λ found. ⊎_elim
+      (λ (was : is_changed a 0 ≡ true). inl ((changed_are_marked a 0).1 was))
+      (λ (other : block_at b 0 ≢ block_at a 0). inr other)
+      (parts.head ((changed_are_marked b 0).0 found));
 }
 
 module _ (a : Blocks) (now kept : Trees) (parts : AreGroupParts a now kept) where
@@ -156,8 +167,8 @@ module _ (a : Blocks) (now kept : Trees) (parts : AreGroupParts a now kept) wher
   pub parts_dropped : AreGroupParts (all_dropped a) kept kept
   parts_dropped = record { now_group = parts.kept_group; kept_group = parts.kept_group; kept_whole = parts.kept_whole }
 
-pub kept_view : (b : Blocks) → state_of (all_kept b) ≡ kept_now (state_of b)
-kept_view b = ap (λ (ns : List ℕ). record (kept_now (state_of b)) { changed = ns }) (none_changed b.current)
+pub kept_view : (b : Blocks) → group_state_of (all_kept b) ≡ kept_now (group_state_of b)
+kept_view b = ap (λ (ns : List ℕ). record (kept_now (group_state_of b)) { changed = ns }) (none_changed b.current)
 
-pub dropped_view : (b : Blocks) → state_of (all_dropped b) ≡ dropped_to_kept (state_of b)
-dropped_view b = ap (λ (ns : List ℕ). record (dropped_to_kept (state_of b)) { changed = ns }) (none_changed b.kept)
+pub dropped_view : (b : Blocks) → group_state_of (all_dropped b) ≡ dropped_to_kept (group_state_of b)
+dropped_view b = ap (λ (ns : List ℕ). record (dropped_to_kept (group_state_of b)) { changed = ns }) (none_changed b.kept)

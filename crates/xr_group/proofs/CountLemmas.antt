@@ -8,7 +8,7 @@ use Rattle.xr_base.specs.declared.geometry.TheConstants.{GROUP_BLOCKS}
 use Rattle.xr_group.proofs.AddressLemmas.{address_below, address_from, block_after, block_of_number, good_span, same_group, same_test}
 use Rattle.xr_group.proofs.GroupPoolLemmas.{records_read}
 use Rattle.xr_group.specs.Group.{GroupState, IsRunOf, records_now}
-use Rattle.xr_group.specs.Parts.{HasGroup, state_of}
+use Rattle.xr_group.specs.Parts.{HasGroup, group_state_of}
 use Rattle.xr_group.specs.Sets.{AreCountedIn, AreOwnedAlikeIn, AreStagedIn, IsCountedIn, IsFirstPart, LowersCounts, RaisesCounts, StagesAddresses, UnstagesAddresses, has_staged, is_in_group, owner_count_in, group_span}
 use Rattle.xr_group.specs.Trees.{GroupRecords}
 use Rattle.xr_group.specs.declared.trees.Trees.{Trees}
@@ -44,27 +44,27 @@ module _ (g : GroupState) (run : Run) (mine : IsRunOf g run) (a : ℕ) where
       let lie : is_in_group g a ≡ true = grind (arith, nat_tests, number, mine.here) in absurd cc)
 
 module _ (b : Blocks) (t : Trees) (h : HasGroup b t) where
-  references_same : (records_now (state_of b)).reference ≡ reference_records b t.counts
+  references_same : (records_now (group_state_of b)).reference ≡ reference_records b t.counts
   references_same = ap (λ (x : GroupRecords). x.reference) (records_read b t h)
 
-  pub count_read : (a : ℕ) → owner_count_in (state_of b) a ≡ (if is_in_group (state_of b) a then count_at (reference_records b t.counts) (a % GROUP_BLOCKS) else 1)
-  count_read a = ap (λ (xs : List Reference). if is_in_group (state_of b) a then count_at xs (a % GROUP_BLOCKS) else 1) references_same
+  pub count_read : (a : ℕ) → owner_count_in (group_state_of b) a ≡ (if is_in_group (group_state_of b) a then count_at (reference_records b t.counts) (a % GROUP_BLOCKS) else 1)
+  count_read a = ap (λ (xs : List Reference). if is_in_group (group_state_of b) a then count_at xs (a % GROUP_BLOCKS) else 1) references_same
 
-  pub staged_read : (a : ℕ) → has_staged (state_of b) a ≡ (is_in_group (state_of b) a && is_staged_at (reference_records b t.counts) (a % GROUP_BLOCKS))
-  staged_read a = ap (λ (xs : List Reference). is_in_group (state_of b) a && is_staged_at xs (a % GROUP_BLOCKS)) references_same
+  pub staged_read : (a : ℕ) → has_staged (group_state_of b) a ≡ (is_in_group (group_state_of b) a && is_staged_at (reference_records b t.counts) (a % GROUP_BLOCKS))
+  staged_read a = ap (λ (xs : List Reference). is_in_group (group_state_of b) a && is_staged_at xs (a % GROUP_BLOCKS)) references_same
 
-module _ (run : Run) (a : Blocks) (s : Trees) (before : HasGroup a s) (mine : IsRunOf (state_of a) run) where
+module _ (run : Run) (a : Blocks) (s : Trees) (before : HasGroup a s) (mine : IsRunOf (group_state_of a) run) where
   abbrev olds : List Reference
   olds = reference_records a s.counts
 
   -- what is so of the addresses of the run is so of its blocks
-  pub part_read : (count : ℕ) (staged : Bool) → AreCountedIn (state_of a) run count staged → AreCountedAs olds (group_span run) count staged
+  pub part_read : (count : ℕ) (staged : Bool) → AreCountedIn (group_state_of a) run count staged → AreCountedAs olds (group_span run) count staged
   part_read count staged all n is =
       let fits = good_span run mine.good in
       let at = block_of_number run mine.good n is.from is.below in
-      let here : is_in_group (state_of a) at.0 ≡ true = grind (arith, nat_tests, at.2, mine.here) in
+      let here : is_in_group (group_state_of a) at.0 ≡ true = grind (arith, nat_tests, at.2, mine.here) in
       let inside : is_within run.start.0 run.len at.0 ≡ true =
-      sym (within_here (state_of a) run mine at.0 here) ∙ (let from = is.from in let below = is.below in let block = at.1 in grind (arith, nat_tests)) in
+      sym (within_here (group_state_of a) run mine at.0 here) ∙ (let from = is.from in let below = is.below in let block = at.1 in grind (arith, nat_tests)) in
       let told = all at.0 inside in
       let block : at.0 % GROUP_BLOCKS ≡ n = at.1 in
       record {
@@ -72,34 +72,34 @@ module _ (run : Run) (a : Blocks) (s : Trees) (before : HasGroup a s) (mine : Is
         kind = ap (is_staged_at olds) (sym block) ∙ (let c = staged_read a s before at.0 in let told_kind = told.1 in grind (arith, here, c, told_kind));
       }
 
-  pub staged_part_read : AreStagedIn (state_of a) run → (n : ℕ) → IsIn (group_span run) n → is_staged_at olds n ≡ true
+  pub staged_part_read : AreStagedIn (group_state_of a) run → (n : ℕ) → IsIn (group_span run) n → is_staged_at olds n ≡ true
   staged_part_read all n is =
       let at = block_of_number run mine.good n is.from is.below in
-      let here : is_in_group (state_of a) at.0 ≡ true = grind (arith, nat_tests, at.2, mine.here) in
+      let here : is_in_group (group_state_of a) at.0 ≡ true = grind (arith, nat_tests, at.2, mine.here) in
       let inside : is_within run.start.0 run.len at.0 ≡ true =
-      sym (within_here (state_of a) run mine at.0 here) ∙ (let from = is.from in let below = is.below in let block = at.1 in grind (arith, nat_tests)) in
+      sym (within_here (group_state_of a) run mine at.0 here) ∙ (let from = is.from in let below = is.below in let block = at.1 in grind (arith, nat_tests)) in
       let told = all at.0 inside in
       ap (is_staged_at olds) (sym at.1) ∙ (let c = staged_read a s before at.0 in grind (arith, here, c, told))
 
-  start_here : is_in_group (state_of a) run.start.0 ≡ true
+  start_here : is_in_group (group_state_of a) run.start.0 ≡ true
   start_here = grind (arith, nat_tests, mine.here)
 
-  pub start_count : owner_count_in (state_of a) run.start.0 ≡ count_at olds (group_span run).start
+  pub start_count : owner_count_in (group_state_of a) run.start.0 ≡ count_at olds (group_span run).start
   start_count = let c = count_read a s before run.start.0 in grind (arith, start_here, c)
 
-  pub alike_read : AreOwnedAlikeIn (state_of a) run → AreOwnedAlike olds (group_span run)
-  alike_read all = part_read (count_at olds (group_span run).start) false (subst (λ (n : ℕ). AreCountedIn (state_of a) run n false) start_count all)
+  pub alike_read : AreOwnedAlikeIn (group_state_of a) run → AreOwnedAlike olds (group_span run)
+  alike_read all = part_read (count_at olds (group_span run).start) false (subst (λ (n : ℕ). AreCountedIn (group_state_of a) run n false) start_count all)
 
   -- an address of the group is counted as its block is
-  counted_seen : (x count : ℕ) (staged : Bool) → is_in_group (state_of a) x ≡ true → IsCountedAs olds (x % GROUP_BLOCKS) count staged
-      → IsCountedIn (state_of a) x count staged
+  counted_seen : (x count : ℕ) (staged : Bool) → is_in_group (group_state_of a) x ≡ true → IsCountedAs olds (x % GROUP_BLOCKS) count staged
+      → IsCountedIn (group_state_of a) x count staged
   counted_seen x count staged here is =
       let c = count_read a s before x in
       let k = staged_read a s before x in
       let owners = is.owners in
       let kind = is.kind in (grind (arith, here, c, owners), grind (arith, here, k, kind))
 
-  counted_read : (x count : ℕ) (staged : Bool) → is_in_group (state_of a) x ≡ true → IsCountedIn (state_of a) x count staged
+  counted_read : (x count : ℕ) (staged : Bool) → is_in_group (group_state_of a) x ≡ true → IsCountedIn (group_state_of a) x count staged
       → IsCountedAs olds (x % GROUP_BLOCKS) count staged
   counted_read x count staged here is =
       let c = count_read a s before x in
@@ -108,7 +108,7 @@ module _ (run : Run) (a : Blocks) (s : Trees) (before : HasGroup a s) (mine : Is
       let kind = is.1 in record { owners = grind (arith, here, c, owners); kind = grind (arith, here, k, kind) }
 
   module _ (part : CountedSpan) (first : IsFirstEqual olds (group_span run) part) where
-    pub first_part_read : IsFirstPart (state_of a) run (record { run = record { start = run.start; len = part.run.len }; count = part.count; staged = part.staged })
+    pub first_part_read : IsFirstPart (group_state_of a) run (record { run = record { start = run.start; len = part.run.len }; count = part.count; staged = part.staged })
     first_part_read = record {
       start = refl;
       some = first.some;
@@ -121,7 +121,7 @@ module _ (run : Run) (a : Blocks) (s : Trees) (before : HasGroup a s) (mine : Is
           let until : x < run.start.0 + run.len = omega (arith, below, fits) in
           let number = same_group run mine.good x from until in
           let after = block_after run mine.good x from until in
-          let here : is_in_group (state_of a) x ≡ true = grind (arith, nat_tests, number, mine.here) in
+          let here : is_in_group (group_state_of a) x ≡ true = grind (arith, nat_tests, number, mine.here) in
           counted_seen x part.count part.staged here
           (first.alike (x % GROUP_BLOCKS) (record { from = omega (arith, begins, after, from); below = omega (arith, begins, after, below) }));
       longest = λ less is.
@@ -129,7 +129,7 @@ module _ (run : Run) (a : Blocks) (s : Trees) (before : HasGroup a s) (mine : Is
           let x : ℕ = run.start.0 + part.run.len in
           let number = same_group run mine.good x (omega arith) (omega (arith, less)) in
           let after = block_after run mine.good x (omega arith) (omega (arith, less)) in
-          let here : is_in_group (state_of a) x ≡ true = grind (arith, nat_tests, number, mine.here) in
+          let here : is_in_group (group_state_of a) x ≡ true = grind (arith, nat_tests, number, mine.here) in
           let place : x % GROUP_BLOCKS ≡ end_of part.run = omega (arith, begins, after) in
           first.longest less (subst (λ (n : ℕ). IsCountedAs olds n part.count part.staged) place (counted_read x part.count part.staged here is));
     }
@@ -138,69 +138,69 @@ module _ (run : Run) (a : Blocks) (s : Trees) (before : HasGroup a s) (mine : Is
     abbrev news : List Reference
     news = reference_records b t.counts
 
-    still : (x : ℕ) → is_in_group (state_of b) x ≡ is_in_group (state_of a) x
+    still : (x : ℕ) → is_in_group (group_state_of b) x ≡ is_in_group (group_state_of a) x
     still x = ap (λ (n : ℕ). x / GROUP_BLOCKS == n) same
 
     -- in the group and out of it
     each_count : (change : ℕ → ℕ) → ((n : ℕ) → count_at news n ≡ (if is_in_run (group_span run) n then change (count_at olds n) else count_at olds n))
-        → (x : ℕ) → owner_count_in (state_of b) x ≡ (if is_within run.start.0 run.len x then change (owner_count_in (state_of a) x) else owner_count_in (state_of a) x)
+        → (x : ℕ) → owner_count_in (group_state_of b) x ≡ (if is_within run.start.0 run.len x then change (owner_count_in (group_state_of a) x) else owner_count_in (group_state_of a) x)
     each_count change told x = ⊎_elim
-        (λ (here : is_in_group (state_of a) x ≡ true).
+        (λ (here : is_in_group (group_state_of a) x ≡ true).
         let now = count_read b t after x in
         let was = count_read a s before x in
-        let place = within_here (state_of a) run mine x here in
+        let place = within_here (group_state_of a) run mine x here in
         let at = told (x % GROUP_BLOCKS) in
         rw (now, still x, was, here, at, place) refl)
-        (λ (other : is_in_group (state_of a) x ≡ false).
+        (λ (other : is_in_group (group_state_of a) x ≡ false).
         let now = count_read b t after x in
         let was = count_read a s before x in
-        let place = without_here (state_of a) run mine x other in
+        let place = without_here (group_state_of a) run mine x other in
         rw (now, still x, was, other, place) refl)
-        (cases_Bool (is_in_group (state_of a) x))
+        (cases_Bool (is_in_group (group_state_of a) x))
 
     each_staged : (change : Bool → Bool → Bool) → change false false ≡ false
         → ((n : ℕ) → is_staged_at news n ≡ change (is_staged_at olds n) (is_in_run (group_span run) n))
-        → (x : ℕ) → has_staged (state_of b) x ≡ change (has_staged (state_of a) x) (is_within run.start.0 run.len x)
+        → (x : ℕ) → has_staged (group_state_of b) x ≡ change (has_staged (group_state_of a) x) (is_within run.start.0 run.len x)
     each_staged change none told x = ⊎_elim
-        (λ (here : is_in_group (state_of a) x ≡ true).
+        (λ (here : is_in_group (group_state_of a) x ≡ true).
         let now = staged_read b t after x in
         let was = staged_read a s before x in
-        let place = within_here (state_of a) run mine x here in
+        let place = within_here (group_state_of a) run mine x here in
         let at = told (x % GROUP_BLOCKS) in
         rw (now, still x, was, here, at, place) refl)
-        (λ (other : is_in_group (state_of a) x ≡ false).
+        (λ (other : is_in_group (group_state_of a) x ≡ false).
         let now = staged_read b t after x in
         let was = staged_read a s before x in
-        let place = without_here (state_of a) run mine x other in
+        let place = without_here (group_state_of a) run mine x other in
         rw (now, still x, was, other, place) (sym none))
-        (cases_Bool (is_in_group (state_of a) x))
+        (cases_Bool (is_in_group (group_state_of a) x))
 
-    pub raises_read : Raises olds (group_span run) news → RaisesCounts run (state_of a) (state_of b)
+    pub raises_read : Raises olds (group_span run) news → RaisesCounts run (group_state_of a) (group_state_of b)
     raises_read step = record {
       counts = each_count (λ (n : ℕ). n + 1) step.counts;
       staged = each_staged (λ (was place : Bool). was) refl step.staged;
     }
 
-    pub lowers_read : Lowers olds (group_span run) news → LowersCounts run (state_of a) (state_of b)
+    pub lowers_read : Lowers olds (group_span run) news → LowersCounts run (group_state_of a) (group_state_of b)
     lowers_read step = record {
       counts = each_count (λ (n : ℕ). n - 1) step.counts;
       staged = each_staged (λ (was place : Bool). was) refl step.staged;
     }
 
-    same_counts : ((n : ℕ) → count_at news n ≡ count_at olds n) → (x : ℕ) → owner_count_in (state_of b) x ≡ owner_count_in (state_of a) x
+    same_counts : ((n : ℕ) → count_at news n ≡ count_at olds n) → (x : ℕ) → owner_count_in (group_state_of b) x ≡ owner_count_in (group_state_of a) x
     same_counts told x =
         let now = count_read b t after x in
         let was = count_read a s before x in
         let at = told (x % GROUP_BLOCKS) in
         rw (now, still x, was, at) refl
 
-    pub stages_read : StagesRun olds (group_span run) news → StagesAddresses run (state_of a) (state_of b)
+    pub stages_read : StagesRun olds (group_span run) news → StagesAddresses run (group_state_of a) (group_state_of b)
     stages_read step = record {
       counts = same_counts step.counts;
       staged = each_staged (λ (was place : Bool). was || place) refl step.staged;
     }
 
-    pub unstages_read : UnstagesRun olds (group_span run) news → UnstagesAddresses run (state_of a) (state_of b)
+    pub unstages_read : UnstagesRun olds (group_span run) news → UnstagesAddresses run (group_state_of a) (group_state_of b)
     unstages_read step = record {
       counts = same_counts step.counts;
       staged = each_staged (λ (was place : Bool). was && not place) refl step.staged;

@@ -1,36 +1,18 @@
 -- An overlay with its trees and their header is a group by its blocks, and holds what the trees hold.
-use Rattle.std.proofs.Common.{◌≡◌, ℕ, zero, suc, ◌<◌, ◌≤◌, true, false, List, [], length, get_or, refl, sym, ap, subst, ◌∙◌, ⊎_elim, arith}
-use Rattle.std.proofs.lemmas.Bool.{cases_Bool, cases_lt}
-use Rattle.std.proofs.lemmas.List.{get_or_default, get_or_past}
+use Rattle.std.proofs.Common.{◌≡◌, ℕ, zero, suc, List, get_or, refl, sym, ap, subst, ◌∙◌, arith}
+use Rattle.std.proofs.lemmas.List.{get_or_default}
 use Rattle.std.specs.List.{Contains}
 use Rattle.xr_block.specs.SharedPool.{IsPartedPool}
 use Rattle.xr_group.specs.Group.{AreGroups, IsGroup, group_no, group_pool, head_of_blocks, part_now, records_now, trees_of_blocks, trees_of_head}
-use Rattle.xr_group.specs.Parts.{AreGroupParts, HasGroup, head_of, state_of}
+use Rattle.xr_group.specs.Parts.{AreGroupParts, HasGroup, head_of, group_state_of}
 use Rattle.xr_group.specs.Trees.{HasGroupTrees, parts_of, records_of_trees}
 use Rattle.xr_group.specs.declared.trees.Trees.{Trees}
 use Rattle.xr_headers.specs.HeaderValueLaws.{group_in-group_block}
 use Rattle.xr_headers.specs.Headers.{IsGroupHead, group_block, group_in}
 use Rattle.xr_headers.specs.declared.group_head.GroupHead.{GroupHead}
-use Rattle.xr_pool.specs.Overlay.{AreBlocks, AreWhole, Blocks, all_dropped, all_kept, changed_blocks, is_free, no_marks}
-use Rattle.xr_pool.specs.OverlayLaws.{changed_are_marked, changed_rise}
-
--- the pool of some blocks at rest
-abbrev pub pool_with : List (List ℕ) → List ℕ → ℕ → ℕ → List ℕ → Blocks
-pool_with blocks free first owner uuid = record {
-  kept = blocks;
-  current = blocks;
-  changed = no_marks blocks;
-  kept_free = free;
-  free = free;
-  first = first;
-  owner = owner;
-  uuid = uuid;
-}
-
-pub pool_same : (blocks blocks' : List (List ℕ)) (free free' : List ℕ) (first first' owner owner' : ℕ) (uuid uuid' : List ℕ)
-    → blocks ≡ blocks' → free ≡ free' → first ≡ first' → owner ≡ owner' → uuid ≡ uuid'
-    → pool_with blocks free first owner uuid ≡ pool_with blocks' free' first' owner' uuid'
-pool_same blocks blocks' free free' first first' owner owner' uuid uuid' a b c d e = rw (a, b, c, d, e) refl
+use Rattle.xr_open.specs.PoolStateLaws.{marked_are_below, pool_same, unmarked_are_kept}
+use Rattle.xr_pool.specs.Overlay.{AreBlocks, AreWhole, Blocks, all_dropped, all_kept, changed_blocks, is_free}
+use Rattle.xr_pool.specs.OverlayLaws.{changed_rise}
 
 pub parts_at_rest : (b : Blocks) (t : Trees) (k : ℕ) → parts_of (all_kept b) t k ≡ parts_of b t k
 parts_at_rest b t zero = refl
@@ -82,10 +64,10 @@ module _ (b : Blocks) (t : Trees) (h : HasGroup b t) where
     trees = subst (λ (s : Trees). HasGroupTrees here s) (sym trees_read) (subst (λ (p : Blocks). HasGroupTrees p t) (sym pool_read) (trees_at_rest b t h.trees));
   }
 
-  pub records_read : records_now (state_of b) ≡ records_of_trees b t
+  pub records_read : records_now (group_state_of b) ≡ records_of_trees b t
   records_read = ap (λ (s : Trees). records_of_trees b s) trees_read
 
-  pub part_read : (k : ℕ) → part_now (state_of b) k ≡ parts_of b t k
+  pub part_read : (k : ℕ) → part_now (group_state_of b) k ≡ parts_of b t k
   part_read k =
       ap (λ (p : Blocks). parts_of p (trees_of_blocks b.owner b.uuid b.current) k) pool_read
       ∙ ap (λ (s : Trees). parts_of (all_kept b) s k) trees_read ∙ parts_at_rest b t k
@@ -93,31 +75,14 @@ module _ (b : Blocks) (t : Trees) (h : HasGroup b t) where
   pub free_read : (n : ℕ) → is_free here n ≡ is_free b n
   free_read n = ap (λ (p : Blocks). is_free p n) pool_read
 
--- what isn't marked as changed is as it was kept
-unmarked_same : (b : Blocks) → AreBlocks b → (n : ℕ) → ¬ (Contains (changed_blocks b) n) → get_or b.kept n [] ≡ get_or b.current n []
-unmarked_same b all n out = ⊎_elim
-    (λ (within : n < length b.changed). ⊎_elim
-    (λ (marked : get_or b.changed n false ≡ true). absurd (out ((changed_are_marked b n).1 marked)))
-    (λ (clear : get_or b.changed n false ≡ false). all.others n (get_or_default b.changed n true false within ∙ clear))
-    (cases_Bool (get_or b.changed n false)))
-    (λ (past : length b.changed ≤ n).
-    get_or_past b.kept n [] (omega (arith, past, all.marks, all.same_blocks)) ∙ sym (get_or_past b.current n [] (omega (arith, past, all.marks))))
-    (cases_lt n (length b.changed))
-
-marked_below : (b : Blocks) → AreBlocks b → (n : ℕ) → Contains (changed_blocks b) n → n < length b.current
-marked_below b all n found = ⊎_elim
-    (λ (within : n < length b.changed). omega (arith, within, all.marks))
-    (λ (past : length b.changed ≤ n).
-    let marked = (changed_are_marked b n).0 found in let none = get_or_past b.changed n false past in absurd cc)
-    (cases_lt n (length b.changed))
-
-pub are_groups : (b : Blocks) (now kept : Trees) → AreGroupParts b now kept → AreBlocks b → AreWhole b.current → AreGroups (state_of b)
+pub are_groups : (b : Blocks) (now kept : Trees) → AreGroupParts b now kept → AreBlocks b → AreWhole b.current → AreGroups (group_state_of b)
 are_groups b now kept parts all whole = record {
   kept_group = is_group (all_dropped b) kept parts.kept_group parts.kept_whole;
   group = is_group b now parts.now_group whole;
-  others = unmarked_same b all;
+  others = unmarked_are_kept b all;
   rising = changed_rise b;
   below = λ k d within.
       let long = parts.now_group.trees.pool in
-      omega (arith, long, marked_below b all (get_or (changed_blocks b) k d) (k, within, get_or_default (changed_blocks b) k _ d within));
+      omega (arith, long, marked_are_below b all (get_or (changed_blocks b) k d) (k, within, get_or_default (changed_blocks b) k _ d within));
+  identified = parts.now_group.place.long;
 }

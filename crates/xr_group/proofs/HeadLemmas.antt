@@ -1,16 +1,13 @@
 -- The trees of a group were changed, and its header follows: block 0 alone is written.
-use Rattle.std.proofs.Common.{◌≡◌, ◌≢◌, ℕ, zero, suc, ◌%◌, ◌<◌, true, false, true≢false, not, ◌&&◌, eqb, if◌then◌else◌, Bool, List, [], ◌∷◌, length, slice_index, refl, sym, ap, subst, ◌∙◌, inl, inr, ⊎_elim, arith}
-use Rattle.std.proofs.lemmas.Bool.{cases_eq}
-use Rattle.std.proofs.lemmas.Bool.Decides.{nat_tests}
+use Rattle.std.proofs.Common.{◌≡◌, ◌≢◌, ℕ, zero, suc, ◌<◌, true, false, true≢false, not, ◌&&◌, eqb, if◌then◌else◌, Bool, List, [], ◌∷◌, length, slice_index, refl, sym, ap, subst, ◌∙◌, inl, inr, ⊎_elim, arith}
+use Rattle.std.proofs.lemmas.Bool.{and_parts, cases_eq, not-false}
 use Rattle.std.proofs.lemmas.List.{get_or-set_other, length-set}
 use Rattle.std.specs.List.{Contains}
 use lib.Pointwise.{bytes_decides, pointwise}
 use borrow.Author.Tests.{eq-eqb, eqb-true}
 use Rattle.xr_block.specs.FrameLaws.{only_member}
-use Rattle.xr_block.specs.Rows.{rows_from}
 use Rattle.xr_block.specs.SharedPool.{block_zero}
 use Rattle.xr_block.specs.SharedPoolLaws.{changes_block_zero, stays_parted_beside_zero}
-use Rattle.xr_block.specs.Tree.{IsTreeIn, IsUsed}
 use Rattle.xr_block.specs.Trees.{IsTree}
 use Rattle.xr_block.specs.declared.root.Root.{Root}
 use Rattle.xr_group.proofs.GroupPoolLemmas.{parted_same}
@@ -19,25 +16,18 @@ use Rattle.xr_group.specs.Group.{group_no}
 use Rattle.xr_group.specs.Parts.{HasGroup, HasOldHead, HaveSameRoots, WritesHead, head_of}
 use Rattle.xr_group.specs.Trees.{HasGroupTrees, parts_of}
 use Rattle.xr_group.specs.declared.trees.Trees.{Trees}
+use Rattle.xr_headers.specs.HeaderValueLaws.{one_group}
 use Rattle.xr_headers.specs.Headers.{AreWords, IsGroupHead, IsPoolRoot, group_block}
 use Rattle.xr_headers.specs.declared.group_head.GroupHead.{GroupHead}
 use Rattle.xr_kinds.specs.Form.{Form}
 use Rattle.xr_kinds.specs.FreeRuns.{block_form, size_form}
 use Rattle.xr_kinds.specs.Reference.{reference_form}
 use Rattle.xr_kinds.specs.Reverse.{reverse_form}
-use Rattle.xr_pool.specs.Bits.{has_bit}
-use Rattle.xr_pool.specs.Overlay.{Blocks, is_free, pool_size, with_block}
+use Rattle.xr_open.specs.PoolStateLaws.{even_maps_keep_block_zero, roots_are_used}
+use Rattle.xr_pool.specs.Overlay.{Blocks, block_at, is_free, pool_size, with_block}
 use Rattle.xr_pool.specs.OverlayLaws.{block_written, changed_more}
 
 -- headers that compare as equal are one
-split : (p q : Bool) → (p && q) ≡ true → (p ≡ true) × (q ≡ true)
-split true q both = (refl, both)
-split false q both = absurd (true≢false (sym both))
-
-not_false : (p : Bool) → not p ≡ false → p ≡ true
-not_false true is = refl
-not_false false is = absurd (true≢false is)
-
 abbrev compare : GroupHead → GroupHead → Bool
 compare a b =
     eqb a.group.0 b.group.0 && (pointwise eqb a.uuid b.uuid && (pointwise eqb a.roots b.roots && (pointwise eqb a.levels b.levels && pointwise eqb a.free b.free)))
@@ -50,10 +40,10 @@ one_head number number' uuid uuid' roots roots' levels levels' free free' a b c 
 
 pub same_head : (a b : GroupHead) → not (compare a b) ≡ false → a ≡ b
 same_head a b same =
-    let one = split (eqb a.group.0 b.group.0) _ (not_false _ same) in
-    let two = split (pointwise eqb a.uuid b.uuid) _ one.1 in
-    let three = split (pointwise eqb a.roots b.roots) _ two.1 in
-    let four = split (pointwise eqb a.levels b.levels) (pointwise eqb a.free b.free) three.1 in
+    let one = and_parts (eqb a.group.0 b.group.0) _ (not-false _ same) in
+    let two = and_parts (pointwise eqb a.uuid b.uuid) _ one.1 in
+    let three = and_parts (pointwise eqb a.roots b.roots) _ two.1 in
+    let four = and_parts (pointwise eqb a.levels b.levels) (pointwise eqb a.free b.free) three.1 in
     one_head _ _ _ _ _ _ _ _ _ _ (eqb-true a.group.0 b.group.0 one.0) ((bytes_decides a.uuid b.uuid).0 two.0) ((bytes_decides a.roots b.roots).0 three.0)
     ((bytes_decides a.levels b.levels).0 four.0) ((bytes_decides a.free b.free).0 four.1)
 
@@ -72,13 +62,8 @@ differ_head a b same other =
     let equal : compare a b ≡ true = subst (λ (x : GroupHead). compare a x ≡ true) same (equal_head a) in
     let lie : not (compare a b) ≡ false = ap not equal in true≢false (sym other ∙ lie)
 
-root_used : {X : Type 0} (form : Form X) (b : Blocks) (root level : ℕ) → IsTreeIn form b root level → IsUsed (is_free b) (pool_size b) root
-unfolding rows_from
-root_used form b root zero tree = tree.owned 0 root (omega arith)
-root_used form b root (suc level) tree = tree.owned 0 root (omega arith)
-
 in_pool : {X : Type 0} (form : Form X) (b : Blocks) (t : Root) → IsTree form b t → pool_size b ≡ 512 → IsPoolRoot t.block
-in_pool form b t tree pool = let used = root_used form b t.block t.level tree in (used.from, omega (arith, used.below, pool))
+in_pool form b t tree pool = let used = roots_are_used form b t tree in (used.from, omega (arith, used.below, pool))
 
 each_root : (b : Blocks) (t : Trees) → HasGroupTrees b t → (i : ℕ) → i < length (head_of b t).roots → IsPoolRoot (slice_index (head_of b t).roots i)
 each_root b t all zero within = in_pool block_form b t.space.by_block all.space.blocks all.pool
@@ -87,14 +72,11 @@ each_root b t all (suc (suc zero)) within = in_pool reverse_form b t.rmap.tree a
 each_root b t all (suc (suc (suc zero))) within = in_pool reference_form b t.counts.tree all.counts all.pool
 each_root b t all (suc (suc (suc (suc i)))) within = absurd (omega (arith, within))
 
-own_clear : (free : List ℕ) → has_bit free 0 ≡ false → slice_index free 0 % 2 ≡ 0
-own_clear free clear = grind (arith, nat_tests)
-
 head_valid : (b : Blocks) (t : Trees) (before : GroupHead) → HasOldHead b t before → AreWords (head_of b t).levels → IsGroupHead (head_of b t)
 head_valid b t before h levels = record {
   group = h.known;
   four_roots = refl;
-  pool = record { roots = each_root b t h.trees; own_block = own_clear b.free h.own_block };
+  pool = record { roots = each_root b t h.trees; own_block = (even_maps_keep_block_zero b.free).0 h.own_block };
   four_levels = refl;
   levels = levels;
   map_bytes = h.map;
@@ -120,7 +102,14 @@ module _ (b : Blocks) (t : Trees) (before : GroupHead) (h : HasOldHead b t befor
     dropped = refl;
     few = omega arith;
     marked = λ n is. inl is;
+    head = λ is. inl is;
   }
+
+  -- another header is written in other bytes
+  pub bytes_differ : (made : GroupHead) (bytes : List ℕ) → made ≡ head_of b t → not (compare made before) ≡ true → bytes ≡ group_block (head_of b t)
+      → bytes ≢ block_at b 0
+  bytes_differ made bytes made_is other is same =
+      differ_head made before (made_is ∙ one_group (head_of b t) before valid h.old_valid h.place.long h.old_long (sym is ∙ same ∙ h.head)) other
 
   module _ (bytes : List ℕ) (is : bytes ≡ group_block (head_of b t)) where
     abbrev now : Blocks
@@ -169,8 +158,8 @@ module _ (b : Blocks) (t : Trees) (before : GroupHead) (h : HasOldHead b t befor
       head = block_written b 0 bytes (omega (arith, h.trees.pool)) ∙ is;
     }
 
-    pub zero_written : WritesHead b now t
-    zero_written =
+    pub zero_written : bytes ≢ block_at b 0 → WritesHead b now t
+    zero_written fresh =
         let space = stays 0 in
         let rmap = stays 1 in
         let counts = stays 2 in
@@ -189,4 +178,5 @@ module _ (b : Blocks) (t : Trees) (before : GroupHead) (h : HasOldHead b t befor
           marked = λ n marks. ⊎_elim inr
               (λ (other : n ≢ 0). inl (sym (get_or-set_other b.changed 0 n true false other) ∙ marks))
               (cases_eq n 0);
+          head = λ marks. inr (λ same. fresh (sym (block_written b 0 bytes (omega (arith, h.trees.pool))) ∙ same));
         }

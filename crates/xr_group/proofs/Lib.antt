@@ -1,6 +1,8 @@
 pub mod AddressLemmas
 pub mod CallLemmas
 pub mod CountLemmas
+pub mod CountListLemmas
+pub mod FilterLemmas
 pub mod FreeLemmas
 pub mod FreeListLemmas
 pub mod GroupPoolLemmas
@@ -12,3 +14,6 @@ pub mod OpenTreeLemmas
 pub mod PartLemmas
 pub mod RefusalLemmas
 pub mod RoomLemmas
+pub mod RunTestLemmas
+pub mod TestLemmas
+pub mod ToldRecordLemmas

@@ -10,7 +10,7 @@ use Rattle.xr_block.specs.Tree.{AreRecords}
 use Rattle.xr_group.proofs.GroupPoolLemmas.{records_read}
 use Rattle.xr_group.specs.Next.{ComesAfter, IsCountedBefore, IsFirstAfter, IsShorter, StartsBefore, counted_at, counteds_now, free_run_at, frees_now}
 use Rattle.xr_group.specs.Next.{rev_at, revs_now, sized_run_at, sizes_now}
-use Rattle.xr_group.specs.Parts.{HasGroup, state_of}
+use Rattle.xr_group.specs.Parts.{HasGroup, group_state_of}
 use Rattle.xr_group.specs.Trees.{GroupRecords}
 use Rattle.xr_group.specs.declared.trees.Trees.{Trees}
 use Rattle.xr_pool.specs.Overlay.{Blocks}
@@ -83,16 +83,16 @@ module _ {X Y : Type 0} (form : Form X) (at : X → Y) (Before : Y → Y → Typ
 
 -- the records of the trees are those of the group
 module _ (b : Blocks) (t : Trees) (h : HasGroup b t) where
-  pub frees_read : frees_now (state_of b) ≡ map (free_run_at b.owner) (block_records b t.space)
+  pub frees_read : frees_now (group_state_of b) ≡ map (free_run_at b.owner) (block_records b t.space)
   frees_read = ap (λ (x : GroupRecords). map (free_run_at b.owner) x.by_block) (records_read b t h)
 
-  pub sizes_read : sizes_now (state_of b) ≡ map (sized_run_at b.owner) (size_records b t.space)
+  pub sizes_read : sizes_now (group_state_of b) ≡ map (sized_run_at b.owner) (size_records b t.space)
   sizes_read = ap (λ (x : GroupRecords). map (sized_run_at b.owner) x.by_size) (records_read b t h)
 
-  pub revs_read : revs_now (state_of b) ≡ map (rev_at b.owner) (owner_records b t.rmap)
+  pub revs_read : revs_now (group_state_of b) ≡ map (rev_at b.owner) (owner_records b t.rmap)
   revs_read = ap (λ (x : GroupRecords). map (rev_at b.owner) x.reverse) (records_read b t h)
 
-  pub counteds_read : counteds_now (state_of b) ≡ map (counted_at b.owner) (reference_records b t.counts)
+  pub counteds_read : counteds_now (group_state_of b) ≡ map (counted_at b.owner) (reference_records b t.counts)
   counteds_read = ap (λ (x : GroupRecords). map (counted_at b.owner) x.reference) (records_read b t h)
 
 -- the orders by addresses are those of the trees

@@ -1,8 +1,8 @@
 -- A group that is opened stands where its header says, and its trees part the pool.
-use Rattle.std.proofs.Common.{◌≡◌, ℕ, zero, suc, ◌+◌, ◌*◌, ◌/◌, ◌<◌, ◌≤◌, List, [], ◌∷◌, ◌++◌, length, take, drop, get_or, slice_index, refl, sym, ap, subst, ◌∙◌, inl, inr, ⊎_elim, arith}
+use Rattle.std.proofs.Common.{◌≡◌, ℕ, zero, suc, ◌*◌, ◌/◌, ◌<◌, ◌≤◌, List, [], ◌∷◌, ◌++◌, length, take, get_or, slice_index, refl, sym, ap, subst, ◌∙◌, inl, inr, ⊎_elim, arith}
 use Rattle.std.proofs.lemmas.Bool.{cases_lt}
 use Rattle.std.proofs.lemmas.Bool.Decides.{nat_tests}
-use Rattle.std.proofs.lemmas.List.{append_assoc, drop-take, get_or_append_left, take-take}
+use Rattle.std.proofs.lemmas.List.{append_assoc}
 use Rattle.std.proofs.lemmas.List.Elements.{Contains-append_cases, Contains-append_left, Contains-append_right}
 use Rattle.std.specs.List.{Contains}
 use Rattle.xr_base.specs.Image.{block_of, part}
@@ -10,11 +10,10 @@ use Rattle.xr_base.specs.declared.geometry.TheConstants.{BLOCK_BYTES, FIRST_DATA
 use Rattle.xr_block.specs.Trees.{blocks_of_tree}
 use Rattle.xr_block.specs.declared.root.Root.{Root}
 use Rattle.xr_group.proofs.PartLemmas.{owned_part}
-use Rattle.xr_group.proofs.GroupPoolLemmas.{pool_same}
 use Rattle.xr_group.specs.Group.{HasGroupHead, IsGroup, first_of_group, group_no, group_pool, head_of_blocks, root_at, trees_of_blocks, trees_of_head}
 use Rattle.xr_group.specs.OpenGroup.{AreApartTrees, RefusesGroup, blocks_of_three, blocks_of_trees, opened_group}
 use Rattle.xr_group.specs.Opening.{OpensHead, RefusesPool}
-use Rattle.xr_group.specs.Parts.{AreGroupParts, HasGroup, IsPart, head_of, state_of}
+use Rattle.xr_group.specs.Parts.{AreGroupParts, HasGroup, IsPart, head_of, group_state_of}
 use Rattle.xr_group.specs.Trees.{HasGroupTrees, parts_of}
 use Rattle.xr_group.specs.declared.trees.Trees.{Trees}
 use Rattle.xr_headers.specs.Headers.{IsGroupHead, group_block, group_fields, group_in, group_opening}
@@ -22,6 +21,7 @@ use Rattle.xr_headers.specs.FirstWrong.{NamesGroupField}
 use Rattle.xr_headers.specs.HeaderValueLaws.{group_in-group_block}
 use Rattle.xr_headers.specs.declared.codec.HeaderFault.{HeaderFault}
 use Rattle.xr_base.specs.declared.address.GroupNo.{GroupNo}
+use Rattle.xr_open.specs.PoolStateLaws.{first_block_is_front, parts_of_front_stay, pool_same}
 use Rattle.xr_open.specs.declared.fault.OpenFault.{OpenFault}
 use Rattle.xr_open.specs.declared.fault.OpenFault.TheVariants.{Header, NoMemory, Tree}
 use Rattle.xr_headers.specs.Padded.{words}
@@ -40,25 +40,15 @@ use Rattle.xr_space.specs.Space.{space_blocks}
 owner_is : (number : ℕ) → number < GROUPS → owner_of (first_of_group number) ≡ number
 owner_is number known = grind (arith, nat_tests)
 
-first_block : (n : ℕ) (bytes : List ℕ) → get_or (blocks_in (suc n) bytes) 0 [] ≡ block_of bytes 0
-unfolding blocks_in
-first_block zero bytes = refl
-first_block (suc n) bytes =
-    get_or_append_left (blocks_in (suc n) bytes) (block_of bytes (suc n) ∷ []) [] 0 (omega (arith, length-blocks_in (suc n) bytes)) ∙ first_block n bytes
-
 group_uuid : (head : GroupHead) → length head.uuid ≡ UUID_BYTES → part UUID_PLACE UUID_BYTES (group_block head) ≡ head.uuid
 unfolding group_fields
 group_uuid head whole =
     read_back BLOCK_CRC BLOCK_BYTES UUID_PLACE UUID_BYTES (group_fields head) (group_opening head) head.uuid (words head.roots ++ words head.levels ++ head.free)
     (simp append_assoc) refl whole (omega arith) (omega arith)
 
-part_of_front : (k at n : ℕ) (bytes : List ℕ) → at + n ≤ k → part at n (take k bytes) ≡ part at n bytes
-part_of_front k at n bytes fits =
-    sym (drop-take at n (take k bytes)) ∙ ap (drop at) (take-take (at + n) k bytes fits) ∙ drop-take at n bytes
-
 uuid_is : (bytes : List ℕ) (head : GroupHead) → length head.uuid ≡ UUID_BYTES → block_of bytes 0 ≡ group_block head → part UUID_PLACE UUID_BYTES bytes ≡ head.uuid
 uuid_is bytes head whole is =
-    sym (part_of_front BLOCK_BYTES UUID_PLACE UUID_BYTES bytes (omega arith)) ∙ ap (part UUID_PLACE UUID_BYTES) is ∙ group_uuid head whole
+    sym (parts_of_front_stay BLOCK_BYTES UUID_PLACE UUID_BYTES bytes (omega arith)) ∙ ap (part UUID_PLACE UUID_BYTES) is ∙ group_uuid head whole
 
 -- the header's own block is no header of this group
 pub head_refused : (number : ℕ) (uuid bytes front : List ℕ) (fault : HeaderFault) → front ≡ take BLOCK_BYTES bytes → fault.block ≡ first_of_group number
@@ -66,7 +56,7 @@ pub head_refused : (number : ℕ) (uuid bytes front : List ℕ) (fault : HeaderF
     → ((v : GroupHead) → IsGroupHead v → v.group ≡ group_no number → v.uuid ≡ uuid → front ≡ group_block v → ⊥)
     → RefusesGroup number uuid (blocks_in FIRST_DATA_BLOCK bytes) (Header fault)
 head_refused number uuid bytes front fault is_front place named never =
-    let zero : front ≡ get_or (blocks_in FIRST_DATA_BLOCK bytes) 0 [] = is_front ∙ sym (first_block 511 bytes) in (
+    let zero : front ≡ get_or (blocks_in FIRST_DATA_BLOCK bytes) 0 [] = is_front ∙ sym (first_block_is_front 511 bytes) in (
       place,
       inl (
         λ has. never (head_of_blocks number uuid (blocks_in FIRST_DATA_BLOCK bytes)) has.valid refl refl (zero ∙ has.head),
@@ -82,7 +72,7 @@ module _ (number : ℕ) (uuid bytes front : List ℕ) (head : GroupHead) (known 
   blocks = blocks_in FIRST_DATA_BLOCK bytes
 
   zero_read : get_or blocks 0 [] ≡ group_block head
-  zero_read = first_block 511 bytes ∙ sym is_front ∙ right.3
+  zero_read = first_block_is_front 511 bytes ∙ sym is_front ∙ right.3
 
   whole_uuid : length head.uuid ≡ UUID_BYTES
   whole_uuid = ap length right.2 ∙ long
@@ -175,8 +165,8 @@ module _ (number : ℕ) (uuid bytes : List ℕ) (b : Blocks) (head : GroupHead) 
   pub opened_right : AreWhole b.current → IsGroup number uuid (blocks_in FIRST_DATA_BLOCK bytes)
   opened_right whole = record { whole = subst (λ (a : Blocks). AreWhole a.current) made.over whole; head = made.has_head; trees = pool_trees }
 
-  pub opened_view : state_of b ≡ opened_group number uuid bytes
-  opened_view = ap state_of made.over ∙ ap (λ (ns : List ℕ). record (opened_group number uuid bytes) { changed = ns }) (none_changed (blocks_in FIRST_DATA_BLOCK bytes))
+  pub opened_view : group_state_of b ≡ opened_group number uuid bytes
+  opened_view = ap group_state_of made.over ∙ ap (λ (ns : List ℕ). record (opened_group number uuid bytes) { changed = ns }) (none_changed (blocks_in FIRST_DATA_BLOCK bytes))
 
 -- trees that share no block and have all that is used part the pool
 module _ (b : Blocks) (t : Trees) (apart : AreApartTrees b t) where

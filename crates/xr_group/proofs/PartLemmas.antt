@@ -1,7 +1,6 @@
 -- A part of a group's pool is changed: the others stay, and the pool stays parted.
-use Rattle.std.proofs.Common.{◌≡◌, ◌≢◌, ℕ, zero, suc, ◌%◌, false, List, length, slice_index, refl, sym, ap, subst, ◌∙◌, ⊎_elim, arith}
+use Rattle.std.proofs.Common.{◌≡◌, ◌≢◌, ℕ, zero, suc, true, false, List, length, refl, sym, ap, subst, ◌∙◌, ⊎_elim, arith}
 use Rattle.std.proofs.lemmas.Bool.{cases_eq}
-use Rattle.std.proofs.lemmas.Bool.Decides.{nat_tests}
 use Rattle.std.proofs.lemmas.List.Elements.{All-contains, Contains-append_cases}
 use Rattle.std.specs.List.{Contains}
 use Rattle.xr_block.specs.Frame.{ChangesOnly}
@@ -17,8 +16,8 @@ use Rattle.xr_group.specs.declared.trees.Trees.{Trees}
 use Rattle.xr_headers.specs.declared.layout.TheConstants.{FREE_MAP_BYTES}
 use Rattle.xr_kinds.specs.Reference.{reference_form}
 use Rattle.xr_kinds.specs.Reverse.{reverse_form}
-use Rattle.xr_pool.specs.Bits.{has_bit}
-use Rattle.xr_pool.specs.Overlay.{AreBlocks, Blocks, is_free, pool_size}
+use Rattle.xr_open.specs.PoolStateLaws.{even_maps_keep_block_zero}
+use Rattle.xr_pool.specs.Overlay.{AreBlocks, Blocks, block_at, is_changed, is_free, pool_size}
 use Rattle.xr_refcount.specs.Refcount.{IsRefcount, reference_blocks, reference_records}
 use Rattle.xr_refcount.specs.declared.refcount.Refcount.{Refcount}
 use Rattle.xr_rmap.specs.Rmap.{IsRmap, owner_records}
@@ -67,9 +66,6 @@ owned_part b t (suc zero) n part within =
 owned_part b t (suc (suc zero)) n part within = All-contains (IsUsed (is_free b) (pool_size b)) (reference_blocks b t.counts) n part.owned within
 owned_part b t (suc (suc (suc i))) n part within = absurd (omega (arith, within.1))
 
-clear_own : (free : List ℕ) → slice_index free 0 % 2 ≡ 0 → has_bit free 0 ≡ false
-clear_own free even = grind (arith, nat_tests)
-
 module _ (k writes : ℕ) (a : Blocks) (s : Trees) (b : Blocks) (t : Trees) (h : HasGroup a s) (change : ChangesPart k writes a s b t) where
   stays : (i : ℕ) → i ≢ k → PartStays a s b t i
   stays i differ =
@@ -110,9 +106,24 @@ module _ (k writes : ℕ) (a : Blocks) (s : Trees) (b : Blocks) (t : Trees) (h :
   zero_out : ¬ (Contains (parts_of a s k) 0)
   zero_out within = let used = h.trees.parted.used k 0 within in absurd (omega (arith, used.from))
 
+  zero_taken : is_free a 0 ≡ false
+  zero_taken = (even_maps_keep_block_zero a.free).1 h.valid.pool.own_block
+
+  pub zero_stays : (block_at b 0 ≡ block_at a 0) × (is_free b 0 ≡ false) × ¬ (Contains (parts_of b t k) 0)
+  zero_stays = change.frame.others 0 zero_taken zero_out
+
+  -- and isn't marked for it
+  pub zero_unmarked : is_changed b 0 ≡ true → is_changed a 0 ≡ true
+  zero_unmarked marks = ⊎_elim
+      (λ (was : is_changed a 0 ≡ true). was)
+      (⊎_elim
+      (λ (own : Contains (parts_of a s k) 0). absurd (zero_out own))
+      (λ (free : is_free a 0 ≡ true). let taken = zero_taken in absurd cc))
+      (change.frame.marked 0 marks)
+
   pub old_head : AreBlocks b → HasOldHead b t (head_of a s)
   old_head blocks =
-      let zero_stays = change.frame.others 0 (clear_own a.free h.valid.pool.own_block) zero_out in
+      let stay = zero_stays in
       record {
         place = record {
           first = same_first ∙ h.place.first ∙ ap first_of_group (sym same_owner);
@@ -122,6 +133,8 @@ module _ (k writes : ℕ) (a : Blocks) (s : Trees) (b : Blocks) (t : Trees) (h :
         trees = trees_after;
         known = omega (arith, same_owner, h.valid.group);
         map = sym blocks.same_maps ∙ kept_map;
-        own_block = zero_stays.1;
-        head = zero_stays.0 ∙ h.head;
+        own_block = stay.1;
+        old_valid = h.valid;
+        old_long = h.place.long;
+        head = stay.0 ∙ h.head;
       }

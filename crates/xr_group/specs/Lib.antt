@@ -9,4 +9,5 @@ pub mod Parts
 pub mod Probes
 pub mod RecordLists
 pub mod Sets
+pub mod ToldRecords
 pub mod Trees

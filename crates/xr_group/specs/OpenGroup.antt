@@ -1,6 +1,6 @@
 -- How a group is opened, and why some blocks are none: the first rule that is broken, of the header, of each tree in turn, or that
 -- each block of no tree is free.
-use Rattle.std.specs.Prelude.{◌≡◌, ◌≢◌, ◌⊎◌, ℕ, List, [], ◌++◌, slice_index_or}
+use Rattle.std.specs.Prelude.{◌≡◌, ◌≢◌, ◌⊎◌, ⊤, ℕ, List, [], ◌++◌, slice_index_or}
 use Rattle.std.specs.List.{Contains}
 use Rattle.xr_base.specs.declared.geometry.TheConstants.{FIRST_DATA_BLOCK}
 use Rattle.xr_block.specs.Trees.{IsTree, blocks_of_tree}
@@ -68,7 +68,7 @@ abbrev pub RefusesFreeMap : Blocks → Trees → HeaderFault → Type 0
 RefusesFreeMap b t fault = AreApartTrees b t × ¬ (HoldAllUsed b (blocks_of_trees b t)) × (fault.field ≡ FREE_MAP_PLACE)
 
 abbrev pub RefusesGroup : ℕ → List ℕ → List (List ℕ) → OpenFault → Type 0
-RefusesGroup number uuid blocks NoMemory = Unit {0}
+RefusesGroup number uuid blocks NoMemory = ⊤
 RefusesGroup number uuid blocks (Tree fault) =
     HasGroupHead number uuid blocks × RefusesTrees (group_pool number uuid blocks) (trees_of_blocks number uuid blocks) fault
 RefusesGroup number uuid blocks (Header fault) =

@@ -1,6 +1,6 @@
 -- Of no public contract.
 -- A group as its overlay and the roots of its trees.
-use Rattle.std.specs.Prelude.{◌≡◌, ◌≢◌, ◌⊎◌, ⊤, ℕ, zero, suc, ◌+◌, ◌<◌, ◌≤◌, true, false, [], ◌∷◌, length}
+use Rattle.std.specs.Prelude.{◌≡◌, ◌≢◌, ◌⊎◌, ◌↔◌, ⊤, ℕ, zero, suc, ◌+◌, ◌<◌, ◌≤◌, true, false, List, [], ◌∷◌, length}
 use Rattle.std.specs.List.{Contains}
 use Rattle.xr_base.specs.declared.geometry.TheConstants.{GROUPS, UUID_BYTES}
 use Rattle.xr_block.specs.Frame.{ChangesOnly}
@@ -10,10 +10,13 @@ use Rattle.xr_group.specs.declared.trees.Trees.{Trees}
 use Rattle.xr_headers.specs.Headers.{IsGroupHead, group_block}
 use Rattle.xr_headers.specs.declared.group_head.GroupHead.{GroupHead}
 use Rattle.xr_headers.specs.declared.layout.TheConstants.{FREE_MAP_BYTES}
+use Rattle.xr_kinds.specs.Spans.{IsIn}
+use Rattle.xr_kinds.specs.declared.reference.Reference.{Reference}
+use Rattle.xr_kinds.specs.declared.span.Span.{Span}
 use Rattle.xr_pool.specs.Overlay.{AreWhole, Blocks, all_dropped, block_at, changed_blocks, is_changed, is_free}
-use Rattle.xr_refcount.specs.Refcount.{IsRefcount}
+use Rattle.xr_refcount.specs.Refcount.{IsRefcount, reference_records}
 use Rattle.xr_rmap.specs.Rmap.{IsRmap}
-use Rattle.xr_space.specs.Space.{IsSpace}
+use Rattle.xr_space.specs.Space.{IsFreeBlock, IsSpace}
 
 -- the header of some trees and their pool
 abbrev pub head_of : Blocks → Trees → GroupHead
@@ -44,8 +47,15 @@ pub record AreGroupParts (b : Blocks) (now kept : Trees) : Type 0 where
   pub kept_group : HasGroup (all_dropped b) kept
   pub kept_whole : AreWhole b.kept
 
-abbrev pub state_of : Blocks → GroupState
-state_of b = record { number = b.owner; uuid = b.uuid; kept = b.kept; blocks = b.current; changed = changed_blocks b }
+abbrev pub group_state_of : Blocks → GroupState
+group_state_of b = record { number = b.owner; uuid = b.uuid; kept = b.kept; blocks = b.current; changed = changed_blocks b }
+
+-- the records of counts, and a run whose blocks are free no more
+abbrev pub references_of : Blocks → Trees → List Reference
+references_of b t = reference_records b t.counts
+
+abbrev pub LosesFreeRun : Span → Blocks → Trees → Blocks → Trees → Type 0
+LosesFreeRun run a s b t = (n : ℕ) → IsFreeBlock b t.space n ↔ (IsFreeBlock a s.space n × ¬ (IsIn run n))
 
 -- one part is trees, and has the roots that it had
 abbrev pub IsPart : Blocks → Trees → ℕ → Type 0
@@ -74,9 +84,11 @@ pub record HasOldHead (b : Blocks) (t : Trees) (before : GroupHead) : Type 0 whe
   pub known : b.owner < GROUPS
   pub map : length b.free ≡ FREE_MAP_BYTES
   pub own_block : is_free b 0 ≡ false
+  pub old_valid : IsGroupHead before
+  pub old_long : length before.uuid ≡ UUID_BYTES
   pub head : block_at b 0 ≡ group_block before
 
--- only block 0 may be another one
+-- only block 0 may be another one, and it is written only where it is
 pub record WritesHead (a b : Blocks) (t : Trees) : Type 0 where
   pub same_records : records_of_trees b t ≡ records_of_trees a t
   pub same_owner : b.owner ≡ a.owner
@@ -85,6 +97,7 @@ pub record WritesHead (a b : Blocks) (t : Trees) : Type 0 where
   pub dropped : all_dropped b ≡ all_dropped a
   pub few : length (changed_blocks b) ≤ length (changed_blocks a) + 1
   pub marked : (n : ℕ) → is_changed b n ≡ true → (is_changed a n ≡ true) ⊎ (n ≡ 0)
+  pub head : is_changed b 0 ≡ true → (is_changed a 0 ≡ true) ⊎ (block_at b 0 ≢ block_at a 0)
 
 -- a change of one part with the header
 pub record ChangesParts (k writes : ℕ) (a : Blocks) (s : Trees) (b : Blocks) (t : Trees) : Type 0 where
@@ -95,3 +108,4 @@ pub record ChangesParts (k writes : ℕ) (a : Blocks) (s : Trees) (b : Blocks) (
   pub dropped : all_dropped b ≡ all_dropped a
   pub few : length (changed_blocks b) ≤ length (changed_blocks a) + writes
   pub marked : (n : ℕ) → is_changed b n ≡ true → (is_changed a n ≡ true) ⊎ (n ≡ 0) ⊎ Contains (parts_of a s k) n ⊎ (is_free a n ≡ true)
+  pub head : is_changed b 0 ≡ true → (is_changed a 0 ≡ true) ⊎ (block_at b 0 ≢ block_at a 0)

@@ -2,7 +2,7 @@
 ghost use Rattle.std.specs.Prelude.{◌≡◌, ◌*◌, ◌+◌, ◌<◌, ◌≤◌, ◌==◌, ℕ, ◌↔◌, not, true};
 ghost use Rattle.std.specs.Prelude.{false, IsTrue, length, slice_index, slice_index_or, vec_len, IfErr, IfOk, IfSome, IsNone, []};
 ghost use Rattle.xr_base.specs.declared.geometry.TheConstants.{BLOCK_BYTES, FIRST_DATA_BLOCK, GROUPS};
-ghost use Rattle.xr_group.specs.Group.{AreGroups, ChangesGroup, IsGroup, IsRunOf, dropped_to_kept, first_of_group, kept_now, records_now};
+ghost use Rattle.xr_group.specs.Group.{AreGroups, ChangesGroup, IsGroup, IsRunOf, first_of_group, records_now};
 ghost use Rattle.xr_group.specs.Next.{IsCountedBefore, IsNextOf, IsShorter, StartsBefore, counteds_now, frees_now, revs_now, sizes_now};
 ghost use Rattle.xr_group.specs.OpenGroup.{RefusesGroup, opened_group};
 ghost use Rattle.xr_group.specs.Sets.{AddsPairs, AreCountedIn, AreOwnedAlikeIn, AreStagedIn, HasNoPairOf, HasPairsOf};
@@ -11,6 +11,7 @@ ghost use Rattle.xr_group.specs.Sets.{StagesAddresses, TakesFree, UnstagesAddres
 ghost use Rattle.xr_group.specs.Trees.{counts_part, free_part, owners_part};
 ghost use Rattle.xr_kinds.specs.Reverse.{is_good_owner, reverse_form};
 ghost use Rattle.xr_maps.specs.Records.{IsBefore};
+ghost use Rattle.xr_open.specs.PoolState.{dropped_to_kept, kept_now};
 ghost use Rattle.xr_pool.specs.Overlay.{blocks_in};
 ghost use Rattle.xr_rmap.specs.Rmap.{owned_run};
 
@@ -19,7 +20,7 @@ use crate::counts::{first_equal_in, lower_in, raise_in, stage_in, unstage_in};
 use crate::next::{next_count_in, next_free_in, next_owner_in, next_size_in};
 use crate::open::{open_head, open_trees};
 use crate::runs::group_span;
-use crate::space::{give_in, take_run};
+use crate::space::{give_in, has_none_free_in, take_run};
 use crate::trees::Trees;
 use std::alloc::Global;
 use std::marker::Model;
@@ -41,11 +42,11 @@ pub struct Group {
 
 impl Model for Group {
     ghost use Rattle.xr_group.specs.Group.{GroupState};
-    ghost use Rattle.xr_group.specs.Parts.{AreGroupParts, state_of};
+    ghost use Rattle.xr_group.specs.Parts.{AreGroupParts, group_state_of};
 
     ghost Value = { GroupState };
 
-    ghost view = { λ g. state_of g.over };
+    ghost view = { λ g. group_state_of g.over };
 
     ghost invariant = { λ g. AreGroupParts g.over g.trees g.kept };
 }
@@ -77,6 +78,26 @@ impl Group {
         ensures { AreGroups self.now }
     {
         self.over.has_blocks();
+    }
+
+    /// Whether an owner has no block of a run at its offset, which are told as for `add`.
+    pub fn has_none_of(&self, run: &Run, owner: u64, off: u64) -> bool
+        requires run { IsRunOf self.now run.now }
+        requires owner { is_good_owner (owned_run (group_span run.now) owner off) ≡ true }
+        ensures { IsTrue result ↔ HasNoPairOf self.now run.now owner off }
+    {
+        let blocks = group_span(run);
+        self.trees.rmap.has_none_of(&self.over, blocks, owner, off)
+    }
+
+    /// Whether the owner has each.
+    pub fn has_all_of(&self, run: &Run, owner: u64, off: u64) -> bool
+        requires run { IsRunOf self.now run.now }
+        requires owner { is_good_owner (owned_run (group_span run.now) owner off) ≡ true }
+        ensures { IsTrue result ↔ HasPairsOf self.now run.now owner off }
+    {
+        let blocks = group_span(run);
+        self.trees.rmap.has_all_of(&self.over, blocks, owner, off)
     }
 
     /// Gives the blocks of a run to an owner, the first of them at an offset and the others at those that follow, or all at the
@@ -162,6 +183,14 @@ impl Group {
         ensures { IsTrue result ↔ IsPaired self.now }
     {
         self.trees.space.paired(&self.over)
+    }
+
+    /// Whether no block of a run is free.
+    pub fn has_none_free(&self, run: &Run) -> bool
+        requires { IsRunOf self.now run.now }
+        ensures { IsTrue result ↔ HasNoFreeOf self.now run.now }
+    {
+        has_none_free_in(&self.over, &self.trees, group_span(run))
     }
 
     /// Takes the first free blocks, as many as are needed or as stand together. None where no block is free, and then nothing

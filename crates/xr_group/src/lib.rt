@@ -3,6 +3,8 @@
 #![tactic(auto)]
 
 mod changes;
+#[cfg(test)]
+mod checked;
 mod counts;
 mod group;
 mod head;
@@ -11,10 +13,13 @@ mod next;
 mod open;
 mod runs;
 mod space;
+#[cfg(test)]
+mod tests;
 mod trees;
 
 pub use group::Group;
 pub use laws::{
-    free_follow_from_maps, fresh_groups_are_free, owners_follow_from_maps, refused_are_no_groups,
+    counts_follow_from_maps, free_follow_from_maps, fresh_groups_are_free, groups_tell_records,
+    owners_follow_from_maps, refused_are_no_groups,
 };
 pub use xr_open::OpenFault;

@@ -3,7 +3,7 @@ ghost use Rattle.std.specs.Prelude.{◌≡◌, ◌↔◌, ◌+◌, ◌*◌, ◌<
 ghost use Rattle.xr_base.specs.declared.geometry.TheConstants.{GROUPS, GROUP_BLOCKS};
 ghost use Rattle.xr_group.specs.Next.{IsCountedBefore, IsNextOf, IsShorter, StartsBefore, counted_at, counteds_now, free_run_at, frees_now};
 ghost use Rattle.xr_group.specs.Next.{rev_at, revs_now, sized_run_at, sizes_now};
-ghost use Rattle.xr_group.specs.Parts.{HasGroup, state_of};
+ghost use Rattle.xr_group.specs.Parts.{HasGroup, group_state_of};
 ghost use Rattle.xr_group.specs.Probes.{WantsLater};
 ghost use Rattle.xr_kinds.specs.FreeRuns.{block_form, size_form};
 ghost use Rattle.xr_kinds.specs.Reference.{reference_form, reference_span};
@@ -48,7 +48,7 @@ fn free_from(over: &Overlay, after: Option<Run>) -> ByBlock
 /// In the order of blocks.
 pub(crate) fn next_free_in(over: &Overlay, trees: &Trees, after: Option<Run>) -> Option<Run>
     requires { HasGroup over.now trees.now }
-    ensures { IsNextOf StartsBefore (frees_now (state_of over.now)) after result }
+    ensures { IsNextOf StartsBefore (frees_now (group_state_of over.now)) after result }
 {
     let from = free_from(over, after);
     match trees.space.by_block.at_least(over, &from) {
@@ -74,7 +74,7 @@ fn size_from(over: &Overlay, after: Option<Run>) -> BySize
 /// In the order of lengths, and then of blocks.
 pub(crate) fn next_size_in(over: &Overlay, trees: &Trees, after: Option<Run>) -> Option<Run>
     requires { HasGroup over.now trees.now }
-    ensures { IsNextOf IsShorter (sizes_now (state_of over.now)) after result }
+    ensures { IsNextOf IsShorter (sizes_now (group_state_of over.now)) after result }
 {
     let from = size_from(over, after);
     match trees.space.by_size.at_least(over, &from) {
@@ -123,7 +123,7 @@ fn rev_at(over: &Overlay, r: &Reverse) -> Rev
 /// In the order of blocks, then of owners, then of offsets.
 pub(crate) fn next_owner_in(over: &Overlay, trees: &Trees, after: Option<Rev>) -> Option<Rev>
     requires { HasGroup over.now trees.now }
-    ensures { IsNextOf IsBefore (revs_now (state_of over.now)) after result }
+    ensures { IsNextOf IsBefore (revs_now (group_state_of over.now)) after result }
 {
     match trees.rmap.next_owner(over, owner_after(over, after)) {
         Some(found) => Some(rev_at(over, &found)),
@@ -176,7 +176,7 @@ pub(crate) fn next_count_in(
     after: Option<Counted>,
 ) -> Option<Counted>
     requires { HasGroup over.now trees.now }
-    ensures { IsNextOf IsCountedBefore (counteds_now (state_of over.now)) after result }
+    ensures { IsNextOf IsCountedBefore (counteds_now (group_state_of over.now)) after result }
 {
     let from = count_from(over, after);
     match trees.counts.tree.at_least(over, &from) {

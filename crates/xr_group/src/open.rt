@@ -61,7 +61,7 @@ fn open_tree<R: Kept>(
 ) -> Result<Tree<R>, TreeFault>
     requires pool { pool_size over.now ≤ 8 * length seen.old }
     requires known { place < 4 }
-    ensures next { (before : List ℕ) → AreMarkedBlocks before seen.old → OpensNext R.form over.now before (root_at head.now place) seen.new result }
+    ensures next { (ns : List ℕ) → AreMarkedBlocks ns seen.old → OpensNext R.form over.now ns (root_at head.now place) seen.new result }
     ensures long { length seen.new ≡ length seen.old }
 {
     Tree::verify(over, head.roots[place], head.levels[place], seen)

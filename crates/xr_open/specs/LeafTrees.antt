@@ -6,7 +6,7 @@ use Rattle.xr_block.specs.TreeBlock.{Place, leaf_bytes}
 use Rattle.xr_block.specs.Trees.{IsTree, blocks_of_tree, records_of_tree}
 use Rattle.xr_block.specs.declared.root.Root.{Root}
 use Rattle.xr_headers.specs.FreshImage.{long_leaf}
-use Rattle.xr_kinds.specs.Form.{Form, IsForm}
+use Rattle.xr_kinds.specs.Form.{Form}
 use Rattle.xr_kinds.specs.Mapping.{mapping_form}
 use Rattle.xr_pool.specs.Overlay.{Blocks, block_at, is_free, pool_size}
 

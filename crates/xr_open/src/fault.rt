@@ -1,4 +1,4 @@
-//! Why some blocks are no file.
+//! Why some blocks are no file, or no group.
 ghost use Rattle.std.specs.Prelude.{◌≡◌};
 ghost use Rattle.xr_open.specs.declared.fault.OpenFault.TheVariants.{Header, NoMemory, Tree};
 
@@ -10,10 +10,10 @@ use xr_headers::HeaderFault;
 /// Why some blocks weren't opened.
 #[derive(Clone, Copy, Debug, PartialEq, Eq, Error)]
 pub enum OpenFault {
-    /// The first block isn't a core, or its free mask names a block of the tree as free or one of no tree as used.
+    /// The first block isn't a core, or a group's header, or it names a block of no tree as used.
     #[error("{0}")]
     Header(HeaderFault),
-    /// The blocks below the root are no tree.
+    /// The blocks below a root are no tree, or one of them is also of a tree before it.
     #[error("{0}")]
     Tree(TreeFault),
     /// Want of memory.

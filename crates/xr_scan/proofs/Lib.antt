@@ -2,13 +2,17 @@ pub mod BadStreamLemmas
 pub mod BlockRunLemmas
 pub mod ChainRefusalLemmas
 pub mod CleanLemmas
+pub mod EntryReplayLemmas
 pub mod FalseRecordLemmas
 pub mod FirstBadLemmas
 pub mod FirstPartLemmas
+pub mod FoundItemLemmas
 pub mod FreshLogLemmas
 pub mod FreshRecordLemmas
 pub mod FreshStateLemmas
+pub mod HomeLemmas
 pub mod LoggedLemmas
+pub mod NextIdLemmas
 pub mod NumberedLemmas
 pub mod PendingOrderLemmas
 pub mod PlacedLemmas
@@ -17,5 +21,8 @@ pub mod ReplayItemLemmas
 pub mod ReplayLemmas
 pub mod ReplayLoopLemmas
 pub mod ScannedLemmas
+pub mod ScanRefusalLemmas
+pub mod ScanningLemmas
 pub mod SealedRefusalLemmas
+pub mod SomeImageLemmas
 pub mod StateLemmas

@@ -53,7 +53,7 @@ are_below (Begin id work ∷ items) valid = step (is_done id work items) (one_mo
     below = All-cons (IsBelow (max (id + 1) (next_id items))) _ _ (omega arith) are.below;
   }
 
-all_valid : (uuid : List ℕ) (last : ℕ) (ls : List Logged) → ItemsAreGood uuid last ls → AllByRecursion IsItem (logged_items ls)
+pub all_valid : (uuid : List ℕ) (last : ℕ) (ls : List Logged) → ItemsAreGood uuid last ls → AllByRecursion IsItem (logged_items ls)
 all_valid uuid last [] good = tt
 all_valid uuid last (l ∷ ls) good = (good.0.valid, all_valid uuid (last_after last l.item) ls good.1)
 

@@ -55,7 +55,7 @@ pub follower_fits : (regions : List (List ℕ)) (at : ℕ) (item : Item) (l : Lo
 follower_fits regions at item l region next is = omega (arith, ap length is, next.whole.long, short l.item)
 
 -- each block has a copy of its own
-record IsPlaced (block : ℕ) : Type 0 where
+pub record IsPlaced (block : ℕ) : Type 0 where
   pub within : copy_number block < 2304
   pub back : ((block < 776) × (520 ≤ block) × (copy_number block ≡ block - 520))
       ⊎ ((776 ≤ block) × ((block - 776) % 2048 < 512) × ((block - 776) / 2048 < 4) × (copy_number block ≡ 256 + 512 * ((block - 776) / 2048) + (block - 776) % 2048))
@@ -65,7 +65,7 @@ file_placed block first last =
     let e : copy_number block ≡ block - 520 = cond-true _ _ _ (lt-ltb block 776 last) in
     record { within = omega (arith, e, first, last); back = inl (last, first, e) }
 
-placed : (block : ℕ) → IsStateBlock block → IsPlaced block
+pub placed : (block : ℕ) → IsStateBlock block → IsPlaced block
 placed block (inl core) = file_placed block core.first core.last
 placed block (inr (inl pool)) = file_placed block pool.first pool.last
 placed block (inr (inr group)) =

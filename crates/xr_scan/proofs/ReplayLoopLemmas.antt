@@ -25,7 +25,7 @@ logged_append block [] ms = refl
 logged_append block (l ∷ ls) ms =
     ap (λ (b : Bool). logs_block block l.item || b) (logged_append block ls ms) ∙ sym (or_assoc (logs_block block l.item) (is_logged block ls) (is_logged block ms))
 
-replays_then : (ls ms : List Logged) (a b c : List ℕ) (m n o : List Bool) → Replays ls a m b n → Replays ms b n c o → Replays (ls ++ ms) a m c o
+pub replays_then : (ls ms : List Logged) (a b c : List ℕ) (m n o : List Bool) → Replays ls a m b n → Replays ms b n c o → Replays (ls ++ ms) a m c o
 replays_then ls ms a b c m n o first second = record {
   copies = second.copies;
   blocks = λ block has. second.blocks block has ∙ ap (λ (bytes : List ℕ). replayed block bytes ms) (first.blocks block has)

@@ -2,6 +2,7 @@ pub mod CleanLaws
 pub mod FalseRecordLaws
 pub mod FalseRecords
 pub mod FreshStateLaws
+pub mod Homes
 pub mod Layout
 pub mod LoggedEntries
 pub mod LoggedLaws
@@ -12,7 +13,10 @@ pub mod RefusalLaws
 pub mod Replaying
 pub mod ReplayLaws
 pub mod Replayed
+pub mod Scan
+pub mod ScanLaws
 pub mod Scanned
 pub mod ScannedLaws
+pub mod Scanning
 pub mod State
 pub mod StateLaws

@@ -1,8 +1,10 @@
 -- Laying images over blocks in memory, one item after another; of no public contract.
-use Rattle.std.specs.Prelude.{◌≡◌, ◌==◌, ◌||◌, ◌⊎◌, ℕ, Bool, false, List, ◌++◌, drop, get_or, length}
+use Rattle.std.specs.Prelude.{◌≡◌, ◌==◌, ◌||◌, ◌⊎◌, ℕ, Bool, false, List, [], ◌∷◌, ◌++◌, drop, get_or, length}
 use Rattle.xr_items.specs.declared.item.Item.{Item}
 use Rattle.xr_items.specs.Transactions.{IsCoreBlock}
 use Rattle.xr_items.specs.Valid.{IsBufferBlock}
+use Rattle.xr_record.specs.declared.entry.Entry.{Entry}
+use Rattle.xr_record.specs.declared.entry.Entry.TheVariants.{Trans, Unmount}
 use Rattle.xr_commit.specs.LoggedItems.{Logged, logged_regions}
 use Rattle.xr_scan.specs.declared.layout.TheConstants.{STATE_BLOCKS, STATE_BYTES}
 use Rattle.xr_scan.specs.LoggedEntries.{IsWholeItem, Logs, logged_items}
@@ -39,6 +41,18 @@ pub record IsNextLogged (regions : List (List ℕ)) (at : ℕ) (item : Item) (l 
   pub whole : IsWholeItem l
   pub rest : List (List ℕ)
   pub here : drop at regions ≡ logged_regions l ++ rest
+
+-- an entry with these items logs them
+abbrev pub LogsEntry : Entry → List Item → List Logged → Type 0
+LogsEntry Unmount items logged = logged ≡ []
+LogsEntry (Trans tid regions) items logged = Logs regions logged × (items ≡ logged_items logged)
+
+-- entries with these items log all of them, one entry after another
+abbrev pub LogEach : List Entry → List (List Item) → List Logged → Type 0
+LogEach [] [] logged = logged ≡ []
+LogEach (entry ∷ entries) (items ∷ lists) logged =
+    (first : List Logged) × (later : List Logged) × (logged ≡ first ++ later) × LogsEntry entry items first × LogEach entries lists later
+LogEach _ _ logged = ⊥
 
 -- the regions of a transaction log these items
 abbrev pub LogsItems : List (List ℕ) → List Item → Type 0

@@ -12,6 +12,7 @@ ghost use Rattle.xr_scan.specs.LoggedLaws.{
 ghost use Rattle.xr_scan.specs.NumberedLaws.{NextIsAbove};
 ghost use Rattle.xr_scan.specs.RefusalLaws.{IsOneRefusal, LiveIsTaken};
 ghost use Rattle.xr_scan.specs.ReplayLaws.{LoggedIsWhole, ReplayGoesOn, UnloggedStays};
+ghost use Rattle.xr_scan.specs.ScanLaws.{IsOneScanRefusal};
 ghost use Rattle.xr_scan.specs.ScannedLaws.{ScannedHasFew, ScannedHolds, TooManyAreHeld};
 ghost use Rattle.xr_scan.specs.StateLaws.{IsOneState, SameIsHeld};
 
@@ -44,10 +45,11 @@ pub fn live_records_are_placed()
     ensures { LiveIsPlaced }
 {}
 
-/// An image with a live stream is not refused, and any other is refused in one way at most.
+/// An image with a live stream is not refused, and any other is refused in one way at most. So is its scan.
 pub fn refusals_are_exact()
     ensures taken { LiveIsTaken }
     ensures one { IsOneRefusal }
+    ensures scan { IsOneScanRefusal }
 {}
 
 /// The live stream of a fresh image is one unmount record. So the image holds its own blocks, and nothing is pending.

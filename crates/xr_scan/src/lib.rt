@@ -2,10 +2,15 @@
 #![tactic(auto)]
 
 mod blocks;
+mod homes;
 mod laws;
 mod layout;
+mod next_id;
 mod replay;
 mod scanned;
+mod scanning;
+#[cfg(test)]
+mod tests;
 
 pub use laws::{
     clean_images_hold_their_blocks, fresh_images_hold_their_blocks, images_hold_one_state,
@@ -14,3 +19,4 @@ pub use laws::{
 };
 pub use layout::layout_is_fixed;
 pub use scanned::Scanned;
+pub use scanning::scan;

@@ -4,10 +4,10 @@ ghost use Rattle.xr_base.specs.Image.{overlaid};
 ghost use Rattle.xr_base.specs.declared.geometry.TheConstants.{BLOCK_BYTES};
 ghost use Rattle.xr_headers.specs.Padded.{zero_padded};
 ghost use Rattle.xr_items.specs.Valid.{IsItem};
-ghost use Rattle.xr_commit.specs.ItemsOf.{region_count};
+ghost use Rattle.xr_commit.specs.ItemsOf.{items_in, region_count};
 ghost use Rattle.xr_commit.specs.LoggedItems.{Logged};
 ghost use Rattle.xr_scan.specs.LoggedEntries.{Logs, logged_items};
-ghost use Rattle.xr_scan.specs.Replaying.{AreCopies, IsNextLogged, IsStateBlock, LogsItems, LogsNone, LogsOnly, Replays};
+ghost use Rattle.xr_scan.specs.Replaying.{AreCopies, IsNextLogged, IsStateBlock, LogEach, LogsEntry, LogsItems, LogsNone, LogsOnly, Replays};
 ghost use Rattle.xr_scan.specs.Scanned.{copy_number};
 ghost use Rattle.xr_scan.specs.declared.layout.TheConstants.{STATE_BLOCKS};
 
@@ -16,7 +16,7 @@ use xr_base::geometry::{
     FIRST_GROUP_BLOCK, FIRST_INODE, GROUP_BLOCKS,
 };
 use xr_items::Item;
-use xr_record::Regions;
+use xr_record::{Entry, Regions};
 
 /// The number of a block among those of a state: the files' blocks come first, and then the groups'.
 fn copy_number(block: u32) -> usize
@@ -99,14 +99,37 @@ fn replay_item(
 }
 
 /// Replays the items of a transaction, one after another.
-pub fn replay_items(regions: &Regions, items: &[Item], blocks: &mut [u8], dirty: &mut [bool])
-    requires small { length regions.now < 2 ^ 64 }
+fn replay_items(regions: &Regions, items: &[Item], blocks: &mut [u8], dirty: &mut [bool])
     requires logs { LogsItems regions.now items.now }
     requires copies { AreCopies blocks.old dirty.old }
     ensures { (ls : List Logged) → Logs regions.now ls → items.now ≡ logged_items ls → Replays ls blocks.old dirty.old blocks.new dirty.new }
 {
+    // Places are below this count, and so in range.
+    let _count = regions.len();
     let mut at = 0;
     for item in items {
         at += replay_item(regions, at, item, blocks, dirty);
+    }
+}
+
+/// Replays the items of an entry.
+fn replay_entry(entry: &Entry, items: &[Item], blocks: &mut [u8], dirty: &mut [bool])
+    requires logs { (ls : List Logged) × LogsEntry entry.now items.now ls }
+    requires copies { AreCopies blocks.old dirty.old }
+    ensures { (ls : List Logged) → LogsEntry entry.now items.now ls → Replays ls blocks.old dirty.old blocks.new dirty.new }
+{
+    if let Entry::Trans { regions, .. } = entry {
+        replay_items(regions, items, blocks, dirty);
+    }
+}
+
+/// Replays the items of all entries, in log order.
+pub fn replay(entries: &[Entry], items: &[Vec<Item>], blocks: &mut [u8], dirty: &mut [bool])
+    requires log { (ls : List Logged) × LogEach entries.now (items_in items.now) ls }
+    requires copies { AreCopies blocks.old dirty.old }
+    ensures { (ls : List Logged) → LogEach entries.now (items_in items.now) ls → Replays ls blocks.old dirty.old blocks.new dirty.new }
+{
+    for i in 0..entries.len() {
+        replay_entry(&entries[i], &items[i], blocks, dirty);
     }
 }

@@ -9,4 +9,4 @@ pub map-requires-clause-hole : goal.map-requires-clause-hole
 map-requires-clause-hole g c =
     let same : c.in-Hole.found ≡ c.args.len = omega arith in
     subst (λ (n : ℕ). IsHole (slot_of_file c.args.file.now) c.args.off n) same
-    (hole_from_piece (slot_of_file c.args.file.now) c.args.off c.args.len c.in-Hole.found c.in-Hole.ensures)
+    (hole_from_piece (slot_of_file c.args.file.now) c.args.off c.args.len c.in-Hole.found c.in-Hole.ensures.piece)

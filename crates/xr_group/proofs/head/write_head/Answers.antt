@@ -1,6 +1,6 @@
 -- The header is that of the trees, and it is written or it was there.
 use Rattle.std.proofs.Common.{ap, sym, ◌∙◌}
-use Rattle.xr_group.proofs.HeadLemmas.{differ_head, head_known, head_stays, head_written, put_valid, same_head, zero_written}
+use Rattle.xr_group.proofs.HeadLemmas.{bytes_differ, differ_head, head_known, head_stays, head_written, put_valid, same_head, zero_written}
 use Rattle.xr_group.proofs.head.write_head.Goals as goal
 use Rattle.xr_headers.specs.Headers.{group_block}
 
@@ -15,7 +15,9 @@ returns-then-ne-clause-group c =
 pub returns-then-ne-clause-written : goal.returns-then-ne-clause-written
 returns-then-ne-clause-written c =
     let made = c.head_of-head.ensures in
-    zero_written _ _ _ c.requires.group (head_known _ _ _ _ c.requires.group made.is made.levels) _ (c.put_group.ensures ∙ ap group_block made.is)
+    let valid = head_known _ _ _ _ c.requires.group made.is made.levels in
+    let is = c.put_group.ensures ∙ ap group_block made.is in
+    zero_written _ _ _ c.requires.group valid _ is (bytes_differ _ _ _ c.requires.group valid _ _ made.is (sym c.ne.ensures ∙ c.if-ne.true) is)
 
 pub returns-else-ne-clause-group : goal.returns-else-ne-clause-group
 returns-else-ne-clause-group c =

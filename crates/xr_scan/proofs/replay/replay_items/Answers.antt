@@ -15,7 +15,7 @@ overflow_add-at c =
     let given = c.requires.logs in
     let g = goes_on c.args.regions.now c.args.items.now given.0 c.loop-item.at c.loop-item.item-index _ (Buf 0) c.args.blocks.now c.args.dirty.now
     c.loop-item.blocks c.loop-item.dirty given.1 given.2 c.loop-item-test.true refl (c.loop-item.invariant given.0 given.1 given.2) in
-    omega (arith, g.within, c.requires.small, c.replay_item-at.ensures.count)
+    omega (arith, g.within, c.len-count.ensures, c.replay_item-at.ensures.count)
 
 pub loop-item-preserved : goal.loop-item-preserved
 loop-item-preserved c =

@@ -1,6 +1,6 @@
 use Rattle.std.proofs.Common.{ap, ◌∙◌}
 use Rattle.xr_bmap.proofs.FileCallLemmas.{dropped_view}
-use Rattle.xr_bmap.specs.File.{dropped_to_kept}
+use Rattle.xr_open.specs.PoolState.{dropped_to_kept}
 use Rattle.xr_bmap.specs.Parts.{file_state_of}
 use Rattle.xr_bmap.proofs.file.File.drop_changes.Goals as goal
 

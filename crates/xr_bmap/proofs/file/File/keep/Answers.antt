@@ -1,6 +1,6 @@
 use Rattle.std.proofs.Common.{ap, subst, sym, ◌∙◌}
 use Rattle.xr_bmap.proofs.FileCallLemmas.{kept_view, parts_kept}
-use Rattle.xr_bmap.specs.File.{kept_now}
+use Rattle.xr_open.specs.PoolState.{kept_now}
 use Rattle.xr_bmap.specs.Parts.{AreFileParts, file_state_of}
 use Rattle.xr_pool.specs.Overlay.{Blocks}
 use Rattle.xr_bmap.proofs.file.File.keep.Goals as goal

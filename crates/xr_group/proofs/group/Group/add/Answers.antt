@@ -4,7 +4,7 @@ use Rattle.xr_group.proofs.AddressLemmas.{good_owned, none_read, adds_read}
 use Rattle.xr_group.proofs.CallLemmas.{changes_read, parts_after}
 use Rattle.xr_group.proofs.GroupPoolLemmas.{records_read}
 use Rattle.xr_group.specs.Group.{ChangesGroup, GroupState, IsRunOf, records_now}
-use Rattle.xr_group.specs.Parts.{state_of}
+use Rattle.xr_group.specs.Parts.{group_state_of}
 use Rattle.xr_group.specs.Sets.{AddsPairs, HasNoPairOf}
 use Rattle.xr_group.specs.Trees.{GroupRecords, owners_part}
 use Rattle.xr_kinds.specs.Reverse.{reverse_form}
@@ -36,12 +36,12 @@ pub returns-clause-added : goal.returns-clause-added
 returns-clause-added c =
     let g = c.self.inside in
     let mine = subst (λ (s : GroupState). IsRunOf s c.args.run.now) (sym c.self.view_is) c.requires.run in
-    subst (λ (s : GroupState). AddsPairs c.args.run.now c.args.owner c.args.off s (state_of c.add_in.new.over)) c.self.view_is
+    subst (λ (s : GroupState). AddsPairs c.args.run.now c.args.owner c.args.off s (group_state_of c.add_in.new.over)) c.self.view_is
     (adds_read c.args.run.now c.args.owner c.args.off g.over g.trees c.self.invariant.now_group mine c.add_in.new.over c.add_in.new.trees
     c.add_in.ensures.group c.add_in.ensures.change.same_owner (rw c.group_span.ensures.is at c.add_in.ensures.added))
 
 pub returns-clause-change : goal.returns-clause-change
 returns-clause-change c =
     let g = c.self.inside in
-    subst (λ (s : GroupState). ChangesGroup owners_part 21 s (state_of c.add_in.new.over)) c.self.view_is
+    subst (λ (s : GroupState). ChangesGroup owners_part 21 s (group_state_of c.add_in.new.over)) c.self.view_is
     (changes_read owners_part 21 g.over g.trees c.add_in.new.over c.add_in.new.trees c.self.invariant.now_group c.add_in.ensures.group c.add_in.ensures.change)

@@ -3,7 +3,7 @@ use Rattle.std.proofs.Common.{subst, sym}
 use Rattle.xr_group.proofs.CallLemmas.{changes_read, parts_after}
 use Rattle.xr_group.proofs.FreeLemmas.{gives_read, none_free_read, paired_read, paired_seen}
 use Rattle.xr_group.specs.Group.{ChangesGroup, GroupState, IsRunOf}
-use Rattle.xr_group.specs.Parts.{state_of}
+use Rattle.xr_group.specs.Parts.{group_state_of}
 use Rattle.xr_group.specs.Sets.{GivesFree, HasNoFreeOf, IsPaired}
 use Rattle.xr_group.specs.Trees.{free_part}
 use Rattle.xr_group.proofs.group.Group.give.Goals as goal
@@ -29,7 +29,7 @@ invariant_of-self c =
 pub returns-clause-change : goal.returns-clause-change
 returns-clause-change c =
     let g = c.self.inside in
-    subst (λ (s : GroupState). ChangesGroup free_part 36 s (state_of c.give_in.new.over)) c.self.view_is
+    subst (λ (s : GroupState). ChangesGroup free_part 36 s (group_state_of c.give_in.new.over)) c.self.view_is
     (changes_read free_part 36 g.over g.trees c.give_in.new.over c.give_in.new.trees c.self.invariant.now_group c.give_in.ensures.group c.give_in.ensures.change)
 
 pub returns-clause-paired : goal.returns-clause-paired
@@ -39,6 +39,6 @@ pub returns-clause-given : goal.returns-clause-given
 returns-clause-given c =
     let g = c.self.inside in
     let mine = subst (λ (s : GroupState). IsRunOf s c.args.run.now) (sym c.self.view_is) c.requires.run in
-    subst (λ (s : GroupState). GivesFree c.args.run.now s (state_of c.give_in.new.over)) c.self.view_is
+    subst (λ (s : GroupState). GivesFree c.args.run.now s (group_state_of c.give_in.new.over)) c.self.view_is
     (gives_read c.args.run.now g.over g.trees c.self.invariant.now_group mine c.give_in.new.over c.give_in.new.trees
     c.give_in.ensures.group c.give_in.ensures.change.same_owner (rw c.group_span.ensures.is at c.give_in.ensures.given))

@@ -1,7 +1,7 @@
 use Rattle.std.proofs.Common.{ap, subst, sym, ◌∙◌}
 use Rattle.xr_group.proofs.CallLemmas.{kept_view, parts_kept}
-use Rattle.xr_group.specs.Group.{kept_now}
-use Rattle.xr_group.specs.Parts.{AreGroupParts, state_of}
+use Rattle.xr_open.specs.PoolState.{kept_now}
+use Rattle.xr_group.specs.Parts.{AreGroupParts, group_state_of}
 use Rattle.xr_pool.specs.Overlay.{Blocks}
 use Rattle.xr_group.proofs.group.Group.keep.Goals as goal
 
@@ -11,4 +11,4 @@ invariant_of-self c =
     subst (λ (b : Blocks). AreGroupParts b g.trees g.trees) (sym c.keep.ensures) (parts_kept g.over g.trees g.kept c.self.invariant c.has_blocks.ensures.blocks)
 
 pub returns : goal.returns
-returns c = ap state_of c.keep.ensures ∙ kept_view c.self.inside.over ∙ ap kept_now c.self.view_is
+returns c = ap group_state_of c.keep.ensures ∙ kept_view c.self.inside.over ∙ ap kept_now c.self.view_is

@@ -4,7 +4,7 @@ use Rattle.xr_group.proofs.AddressLemmas.{good_owned, all_read, removes_read}
 use Rattle.xr_group.proofs.CallLemmas.{changes_read, parts_after}
 use Rattle.xr_group.proofs.GroupPoolLemmas.{records_read}
 use Rattle.xr_group.specs.Group.{ChangesGroup, GroupState, IsRunOf, records_now}
-use Rattle.xr_group.specs.Parts.{state_of}
+use Rattle.xr_group.specs.Parts.{group_state_of}
 use Rattle.xr_group.specs.Sets.{RemovesPairs, HasPairsOf}
 use Rattle.xr_group.specs.Trees.{GroupRecords, owners_part}
 use Rattle.xr_kinds.specs.Reverse.{reverse_form}
@@ -36,12 +36,12 @@ pub returns-clause-removed : goal.returns-clause-removed
 returns-clause-removed c =
     let g = c.self.inside in
     let mine = subst (λ (s : GroupState). IsRunOf s c.args.run.now) (sym c.self.view_is) c.requires.run in
-    subst (λ (s : GroupState). RemovesPairs c.args.run.now c.args.owner c.args.off s (state_of c.remove_in.new.over)) c.self.view_is
+    subst (λ (s : GroupState). RemovesPairs c.args.run.now c.args.owner c.args.off s (group_state_of c.remove_in.new.over)) c.self.view_is
     (removes_read c.args.run.now c.args.owner c.args.off g.over g.trees c.self.invariant.now_group mine c.remove_in.new.over c.remove_in.new.trees
     c.remove_in.ensures.group c.remove_in.ensures.change.same_owner (rw c.group_span.ensures.is at c.remove_in.ensures.removed))
 
 pub returns-clause-change : goal.returns-clause-change
 returns-clause-change c =
     let g = c.self.inside in
-    subst (λ (s : GroupState). ChangesGroup owners_part 21 s (state_of c.remove_in.new.over)) c.self.view_is
+    subst (λ (s : GroupState). ChangesGroup owners_part 21 s (group_state_of c.remove_in.new.over)) c.self.view_is
     (changes_read owners_part 21 g.over g.trees c.remove_in.new.over c.remove_in.new.trees c.self.invariant.now_group c.remove_in.ensures.group c.remove_in.ensures.change)
