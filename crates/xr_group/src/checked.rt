@@ -38,7 +38,7 @@ pub(crate) fn are_paired(rt: &impl Abort, group: &Group)
 }
 
 /// What is so of all blocks of a run.
-fn counted(rt: &impl Abort, group: &Group, run: &Run) -> Counted
+pub(crate) fn counted(rt: &impl Abort, group: &Group, run: &Run) -> Counted
     requires { IsRunOf group.now run.now }
     ensures alike { AreCountedIn group.now run.now result.count result.staged }
     ensures count { owner_count_in group.now run.now.start.0 ≡ result.count }
@@ -91,15 +91,15 @@ pub(crate) fn unstage(rt: &impl Abort, group: &mut Group, start: u32, len: u32)
     group.unstage(&run);
 }
 
-/// Gives 1,024 blocks to an owner who has none, each in a record of its own.
-pub(crate) fn fill(rt: &impl Abort, group: &mut Group, owner: u64)
+/// Gives blocks to an owner who has none, each in a record of its own.
+pub(crate) fn fill(rt: &impl Abort, group: &mut Group, owner: u64, blocks: u32)
     requires number { group.old.number ≡ 0 }
     requires none { (o a : ℕ) → has_pair group.old owner o a ≡ false }
     ensures number { group.new.number ≡ 0 }
     ensures others { (w o a : ℕ) → owner < w → has_pair group.new w o a ≡ has_pair group.old w o a }
 {
-    assert!(rt; owner >= 128 && owner < 160);
-    for i in 0..1024 {
+    assert!(rt; owner >= 128 && owner < 160 && blocks <= 1536);
+    for i in 0..blocks {
         let run = run_of(rt, group, 512 + i, 1);
         assert!(rt; group.owner_records() < 34_304);
         group.add(&run, owner, u64::from(2 * i % 512));

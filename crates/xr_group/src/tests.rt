@@ -334,7 +334,7 @@ fn change_all(rt: &impl Abort, group: &mut Group)
     requires none { (w o a : ℕ) → has_pair group.old w o a ≡ false }
     ensures { group.new.number ≡ 0 }
 {
-    fill(rt, group, 128);
+    fill(rt, group, 128, 1024);
     stage(rt, group, 600, 1);
     are_paired(rt, group);
     let _ = group.take_first(9);
@@ -394,7 +394,7 @@ fn fill_all(rt: &impl Abort, group: &mut Group)
     requires none { (w o a : ℕ) → has_pair group.old w o a ≡ false }
 {
     for owner in 128..144 {
-        fill(rt, group, owner);
+        fill(rt, group, owner, 1024);
     }
 }
 

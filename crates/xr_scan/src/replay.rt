@@ -59,8 +59,9 @@ fn lay_image(image: &[u8], block: &mut [u8])
     requires { length image.now ≤ length block.old }
     ensures { block.new ≡ zero_padded (length block.old) image.now }
 {
-    clear(block);
-    block[..image.len()].copy_from_slice(image);
+    let (front, rest) = block.split_at_mut(image.len());
+    front.copy_from_slice(image);
+    clear(rest);
 }
 
 /// Lays an image over the copy of its block, and marks the block as logged.

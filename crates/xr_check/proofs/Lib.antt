@@ -1,0 +1,3 @@
+mod JudgeLemmas
+mod SizeLemmas
+mod WalkLemmas

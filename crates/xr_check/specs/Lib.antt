@@ -1,0 +1,5 @@
+pub mod Differences
+pub mod TreeOrderLaws
+pub mod TreeOrders
+pub mod VerdictLaws
+pub mod Verdicts
