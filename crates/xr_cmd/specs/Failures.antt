@@ -3,7 +3,7 @@ use Rattle.std.specs.Prelude.{◌≡◌, ℕ, List, Option, IfSome}
 use Rattle.xr_base.specs.Cause.{Rose}
 use Rattle.xr_disk.specs.Disk.{DiskView}
 use Rattle.xr_commit.specs.declared.fault.ScanFault.TheVariants as scan
-use Rattle.xr_commit.specs.Refusals.{RefusesImage}
+use Rattle.xr_commit.specs.Refusals.{IsReadable, RefusesImage}
 use Rattle.xr_cmd.specs.declared.failure.Failure.{Failure}
 use Rattle.xr_cmd.specs.declared.failure.Failure.TheVariants.{BadLine, SourceFailed, DiskFailed, Image, NoMemory}
 use Rattle.xr_cmd.specs.declared.script.ScriptFault.{ScriptFault}
@@ -52,14 +52,14 @@ ShowFails seen AtDisk (Image (scan.Header block)) = WasSeen seen (λ image. IsFi
 ShowFails seen AtDisk (Image fault) = ⊥
 ShowFails seen AtDisk NoMemory = Unit {0}
 
--- why `show` of the log has none
+-- why `show` of the log has none; such an image has no other refusal, since it has no superblock or its log is bytes
 abbrev pub ShowLogFails : Option (List ℕ) → Type 0 → Failure → Type 0
 ShowLogFails seen AtDisk (BadLine number) = ⊥
 ShowLogFails seen AtDisk SourceFailed = ⊥
 ShowLogFails seen AtDisk DiskFailed = AtDisk
 ShowLogFails seen AtDisk (Image (scan.DiskFault faults)) = AtDisk
 ShowLogFails seen AtDisk (Image scan.NoMemory) = Unit {0}
-ShowLogFails seen AtDisk (Image fault) = WasSeen seen (λ image. RefusesImage image fault)
+ShowLogFails seen AtDisk (Image fault) = WasSeen seen (λ image. RefusesImage image fault) × WasSeen seen IsReadable
 ShowLogFails seen AtDisk NoMemory = Unit {0}
 
 -- why a command has none
