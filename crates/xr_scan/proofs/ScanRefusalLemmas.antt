@@ -10,7 +10,7 @@ use Rattle.xr_items.specs.declared.item.ItemFault.{ItemFault}
 use Rattle.xr_items.specs.declared.item.ItemFault.TheVariants as item
 use Rattle.xr_commit.specs.BadItems.{refusal_at}
 use Rattle.xr_commit.specs.declared.fault.ScanFault.{ScanFault}
-use Rattle.xr_commit.specs.declared.fault.ScanFault.TheVariants.{Magic, Version, Length, Checksum, Place, ItemType, Size, Field, Debt, DiskFault, NoMemory}
+use Rattle.xr_commit.specs.declared.fault.ScanFault.TheVariants.{Magic, Version, Length, Checksum, Place, Operation, ItemType, Size, Field, Debt, Header, DiskFault, NoMemory}
 use Rattle.xr_commit.specs.LogRecords.{log_of}
 use Rattle.xr_commit.specs.Refusals.{IsReadable, LeadsNowhere, OrNoMemory, OrOutside, RefusesImage, RefusesLog, fault_of}
 use Rattle.xr_commit.specs.declared.live_stream.Live.{Live}
@@ -129,3 +129,24 @@ one_scan_refusal image (Debt m) (Debt n) small a b = ap Debt (a.1 ∙ sym b.1)
 one_scan_refusal image (Debt m) two small a b = let many = a.0 in absurd (live_is_taken image many.uuid many.heads many.entries two small many.superblock many.live_in b)
 one_scan_refusal image one (Debt n) small a b = let many = b.0 in absurd (live_is_taken image many.uuid many.heads many.entries one small many.superblock many.live_in a)
 one_scan_refusal image one two small a b = one_refusal image one two small a b
+
+-- what holds of any image that was read, whatever its refusal
+where_read : (P : Type 0) → P → (fault : ScanFault) → OrOutside (λ (f : ScanFault). P) fault
+where_read P p (Magic b) = p
+where_read P p (Version b) = p
+where_read P p (Length b) = p
+where_read P p (Checksum b) = p
+where_read P p (Place b) = p
+where_read P p (Operation b) = p
+where_read P p (ItemType b) = p
+where_read P p (Size b) = p
+where_read P p (Field b) = p
+where_read P p (Debt b) = p
+where_read P p (Header b) = p
+where_read P p (DiskFault n) = tt
+where_read P p NoMemory = tt
+
+pub owes_readable : (seen : Option (List ℕ)) (result : Result LiveItems ScanFault) → WasSeen seen (λ image. AreBytes (log_of image))
+    → IfErr result (OrOutside (λ (f : ScanFault). WasSeen seen IsReadable))
+owes_readable seen (Ok found) small = tt
+owes_readable seen (Err fault) small = where_read (WasSeen seen IsReadable) (λ image at. inr (small image at)) fault

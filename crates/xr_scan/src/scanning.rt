@@ -11,7 +11,7 @@ ghost use Rattle.xr_commit.specs.DiskFaults.{WasCounted};
 ghost use Rattle.xr_commit.specs.ItemsOf.{EntriesHaveItems, items_in};
 ghost use Rattle.xr_commit.specs.LogRecords.{log_of};
 ghost use Rattle.xr_commit.specs.LoggedItems.{Logged};
-ghost use Rattle.xr_commit.specs.Refusals.{OrNoMemory, OrOutside};
+ghost use Rattle.xr_commit.specs.Refusals.{IsReadable, OrNoMemory, OrOutside};
 ghost use Rattle.xr_scan.specs.Replayed.{is_logged, replayed};
 ghost use Rattle.xr_scan.specs.Replaying.{IsStateBlock, LogEach};
 ghost use Rattle.xr_scan.specs.Scan.{IsNeverRefused, IsNeverScanned, PreventsScan};
@@ -68,6 +68,7 @@ fn read_live_items<D: Disk>(alloc: Global, disk: &mut D) -> Result<LiveItems, Sc
     ensures bytes { IfOk result (λ _. WasSeen (D.view disk.old).seen (λ image. AreBytes (log_of image))) }
     ensures refused { IfErr result (OrOutside (λ fault. WasSeen (D.view disk.old).seen (λ image. PreventsScan image fault))) }
     ensures never { IfErr result (OrOutside (λ _. WasSeen (D.view disk.old).seen IsNeverScanned)) }
+    ensures readable { IfErr result (OrOutside (λ _. WasSeen (D.view disk.old).seen IsReadable)) }
     ensures reads { OnlyReads (D.view disk.old) (D.view disk.new) }
     ensures clock { (D.view disk.new).moment ≤ (D.view disk.old).moment + 2 }
     ensures kept { (D.view disk.old).faults ≤ (D.view disk.new).faults }
@@ -155,6 +156,7 @@ pub fn scan<D: Disk>(alloc: Global, disk: &mut D) -> Result<Scanned, ScanFault>
     ensures some { IfOk result (λ scanned. (image : List ℕ) × IsScanned image scanned) }
     ensures refused { IfErr result (OrOutside (λ fault. WasSeen (D.view disk.old).seen (λ image. PreventsScan image fault))) }
     ensures never { IfErr result (OrOutside (λ _. WasSeen (D.view disk.old).seen IsNeverScanned)) }
+    ensures readable { IfErr result (OrOutside (λ _. WasSeen (D.view disk.old).seen IsReadable)) }
     ensures reads { OnlyReads (D.view disk.old) (D.view disk.new) }
     ensures clock { (D.view disk.new).moment ≤ (D.view disk.old).moment + 3 + GROUPS }
     ensures kept { (D.view disk.old).faults ≤ (D.view disk.new).faults }

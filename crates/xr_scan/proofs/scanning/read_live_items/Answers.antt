@@ -1,6 +1,6 @@
 use Rattle.std.proofs.lemmas.Result.{err_from_is_err_and}
 use Rattle.xr_scan.proofs.FoundItemLemmas.{was_found}
-use Rattle.xr_scan.proofs.ScanRefusalLemmas.{owes_never, owes_refused, seen_never, seen_refused}
+use Rattle.xr_scan.proofs.ScanRefusalLemmas.{owes_never, owes_readable, owes_refused, seen_never, seen_refused}
 use Rattle.xr_scan.proofs.scanning.read_live_items.Goals as goal
 
 pub returns-in_err-live-clause-refused : goal.returns-in_err-live-clause-refused
@@ -21,3 +21,6 @@ returns-in_err-live-clause-never g c =
 
 pub returns-clause-never : goal.returns-clause-never
 returns-clause-never g c = owes_never _ c.in_ok-live.live c.find_items.result c.in_ok-live.ensures.live c.in_ok-live.ensures.bytes c.find_items.ensures.debt
+
+pub returns-clause-readable : goal.returns-clause-readable
+returns-clause-readable g c = owes_readable _ c.find_items.result c.in_ok-live.ensures.bytes
