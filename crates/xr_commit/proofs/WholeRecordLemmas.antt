@@ -1,5 +1,5 @@
 -- The records that headers of a chain name stand in the log, whole before its end.
-use Rattle.std.proofs.Common.{◌≡◌, ℕ, ◌-◌, ◌<◌, ◌≤◌, ◌∙◌, List, [], All, length, get_or, sym, ap, subst}
+use Rattle.std.proofs.Common.{◌≡◌, ℕ, ◌<◌, ◌≤◌, ◌∙◌, List, [], All, length, get_or, sym, ap, subst}
 use Rattle.std.proofs.lemmas.List.{get_or-map}
 use Rattle.xr_base.specs.declared.geometry.TheConstants.{LOG_SECTORS}
 use Rattle.xr_record.specs.declared.head.Head.{Head}

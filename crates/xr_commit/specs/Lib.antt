@@ -12,6 +12,7 @@ pub mod ItemsOfLaws
 pub mod Layout
 pub mod LiveLaws
 pub mod LiveStream
+pub mod LogEnds
 pub mod LogRecords
 pub mod LoggedItems
 pub mod OneRecordLaws

@@ -381,3 +381,26 @@ fn needs_room_after_the_head(rt: HostRuntime) -> Result<(), Fail> {
     }
     Ok(())
 }
+
+#[test]
+fn tells_how_a_log_ends(rt: HostRuntime) -> Result<(), Fail> {
+    let uuid = Uuid::NAMESPACE_DNS;
+    let mut log = empty_log(rt.alloc())?;
+    assert!(rt; log.len() == LOG_BYTES);
+    assert_eq!(rt; log_end(rt.alloc(), &uuid, &log)?, LogEnd::Empty);
+    put(&rt, &mut log, &FIRST, EMPTY);
+    assert!(rt; log.len() == LOG_BYTES);
+    assert_eq!(rt;
+        log_end(rt.alloc(), &uuid, &log)?,
+        LogEnd::InUse { lsn: FIRST.lsn }
+    );
+    let unmount = Head {
+        ops: 1,
+        len: 20,
+        ..ALONE
+    };
+    put(&rt, &mut log, &unmount, UNMOUNTED);
+    assert!(rt; log.len() == LOG_BYTES);
+    assert_eq!(rt; log_end(rt.alloc(), &uuid, &log)?, LogEnd::Unmounted);
+    Ok(())
+}

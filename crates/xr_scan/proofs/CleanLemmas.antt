@@ -21,7 +21,7 @@ use Rattle.xr_commit.specs.Pending.{pending}
 use Rattle.xr_scan.specs.CleanLaws.{CleanHoldsItsBlocks}
 use Rattle.xr_scan.specs.LoggedEntries.{LogAll, logged_items}
 use Rattle.xr_scan.specs.Replayed.{replayed}
-use Rattle.xr_scan.specs.Scanned.{IsCleanRecord}
+use Rattle.xr_commit.specs.LogEnds.{IsCleanRecord}
 use Rattle.xr_scan.specs.State.{works_of}
 use Rattle.xr_scan.proofs.FreshRecordLemmas.{unmount_body}
 use Rattle.xr_scan.proofs.FreshStateLemmas.{streams}

@@ -137,10 +137,11 @@ log_once uuid log one two all (inr (head, newest, a)) (inr (other, newest', b)) 
     head_once uuid log other one two all (subst (λ (r : LogRecord). RefusesHead uuid log r one) (one_head uuid log head other newest newest') a) b
 
 pub one_refusal : IsOneRefusal
-one_refusal image one two all (inl (none, named)) (inl (none', named')) = named ∙ sym named'
-one_refusal image one two all (inl (none, named)) (inr (uuid, superblock, b)) = absurd (none uuid superblock)
-one_refusal image one two all (inr (uuid, superblock, a)) (inl (none', named')) = absurd (none' uuid superblock)
-one_refusal image one two all (inr (uuid, superblock, a)) (inr (other, also, b)) =
+one_refusal image one two readable (inl (none, named)) (inl (none', named')) = named ∙ sym named'
+one_refusal image one two readable (inl (none, named)) (inr (uuid, superblock, b)) = absurd (none uuid superblock)
+one_refusal image one two readable (inr (uuid, superblock, a)) (inl (none', named')) = absurd (none' uuid superblock)
+one_refusal image one two (inl none) (inr (uuid, superblock, a)) (inr (other, also, b)) = absurd (none uuid superblock)
+one_refusal image one two (inr all) (inr (uuid, superblock, a)) (inr (other, also, b)) =
     log_once other (log_of image) one two all (subst (λ (u : List ℕ). RefusesLog u (log_of image) one) (one_super image uuid other superblock also) a) b
 
 live_or_bodies : (uuid log : List ℕ) (heads : List Head) (entries : List Entry) (fault : ScanFault) → (live : IsLiveIn uuid log heads entries)

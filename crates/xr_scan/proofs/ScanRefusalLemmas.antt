@@ -10,14 +10,14 @@ use Rattle.xr_items.specs.declared.item.ItemFault.{ItemFault}
 use Rattle.xr_items.specs.declared.item.ItemFault.TheVariants as item
 use Rattle.xr_commit.specs.BadItems.{refusal_at}
 use Rattle.xr_commit.specs.declared.fault.ScanFault.{ScanFault}
-use Rattle.xr_commit.specs.declared.fault.ScanFault.TheVariants.{Magic, Version, Length, Checksum, Place, Operation, ItemType, Size, Field, Debt, Header, DiskFault, NoMemory}
+use Rattle.xr_commit.specs.declared.fault.ScanFault.TheVariants.{Debt, DiskFault, NoMemory}
 use Rattle.xr_commit.specs.LogRecords.{log_of}
 use Rattle.xr_commit.specs.Refusals.{IsReadable, LeadsNowhere, OrNoMemory, OrOutside, RefusesImage, RefusesLog, fault_of}
 use Rattle.xr_commit.specs.declared.live_stream.Live.{Live}
 use Rattle.xr_commit.specs.LiveStream.{IsLiveStream}
 use Rattle.xr_scan.specs.Scan.{IsNeverRefused, IsNeverScanned, PreventsScan}
 use Rattle.xr_scan.specs.ScanLaws.{IsOneScanRefusal}
-use Rattle.xr_scan.specs.Scanned.{IsScanned}
+use Rattle.xr_scan.specs.Scanned.{HasTooMany, IsScanned}
 use Rattle.xr_scan.specs.declared.scanned.Scanned.{Scanned}
 use Rattle.xr_scan.specs.Scanning.{OwesTooMuch}
 use Rattle.xr_scan.specs.declared.scanning.LiveItems.{LiveItems}
@@ -123,28 +123,23 @@ owes_never seen live (Err fault) is small owes =
     outside_too (OwesTooMuch live.entries.items) (λ (f : ScanFault). WasSeen seen IsNeverScanned)
     (λ f o image at. never_scanned image f (inr (small image at)) (too_many image live f (is image at) o)) fault owes
 
+-- an image that owes too much isn't refused in another way
+not_owed : (image : List ℕ) (fault : ScanFault) → IsReadable image → HasTooMany image → RefusesImage image fault → ⊥
+not_owed image fault (inl none) many refused = none many.uuid many.superblock
+not_owed image fault (inr small) many refused = live_is_taken image many.uuid many.heads many.entries fault small many.superblock many.live_in refused
+
 -- a scan is refused in one way at most
 pub one_scan_refusal : IsOneScanRefusal
-one_scan_refusal image (Debt m) (Debt n) small a b = ap Debt (a.1 ∙ sym b.1)
-one_scan_refusal image (Debt m) two small a b = let many = a.0 in absurd (live_is_taken image many.uuid many.heads many.entries two small many.superblock many.live_in b)
-one_scan_refusal image one (Debt n) small a b = let many = b.0 in absurd (live_is_taken image many.uuid many.heads many.entries one small many.superblock many.live_in a)
-one_scan_refusal image one two small a b = one_refusal image one two small a b
+one_scan_refusal image (Debt m) (Debt n) readable a b = ap Debt (a.1 ∙ sym b.1)
+one_scan_refusal image (Debt m) two readable a b = absurd (not_owed image two readable a.0 b)
+one_scan_refusal image one (Debt n) readable a b = absurd (not_owed image one readable b.0 a)
+one_scan_refusal image one two readable a b = one_refusal image one two readable a b
 
 -- what holds of any image that was read, whatever its refusal
 where_read : (P : Type 0) → P → (fault : ScanFault) → OrOutside (λ (f : ScanFault). P) fault
-where_read P p (Magic b) = p
-where_read P p (Version b) = p
-where_read P p (Length b) = p
-where_read P p (Checksum b) = p
-where_read P p (Place b) = p
-where_read P p (Operation b) = p
-where_read P p (ItemType b) = p
-where_read P p (Size b) = p
-where_read P p (Field b) = p
-where_read P p (Debt b) = p
-where_read P p (Header b) = p
-where_read P p (DiskFault n) = tt
 where_read P p NoMemory = tt
+where_read P p (DiskFault n) = tt
+where_read P p fault = p
 
 pub owes_readable : (seen : Option (List ℕ)) (result : Result LiveItems ScanFault) → WasSeen seen (λ image. AreBytes (log_of image))
     → IfErr result (OrOutside (λ (f : ScanFault). WasSeen seen IsReadable))

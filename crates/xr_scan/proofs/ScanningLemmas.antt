@@ -1,5 +1,5 @@
 -- What a live stream with its items makes of the blocks at home is what a scan finds.
-use Rattle.std.proofs.Common.{◌≡◌, ◌≢◌, ◌↔◌, ◌∙◌, ℕ, ◌+◌, ◌-◌, ◌<◌, Bool, true, false, List, [], ◌∷◌, ◌++◌, All, length, get_or, map, drop, sum_by, refl, sym, ap, subst, lit<, arith}
+use Rattle.std.proofs.Common.{◌≡◌, ◌≢◌, ◌↔◌, ◌∙◌, ℕ, ◌-◌, ◌<◌, Bool, true, false, List, [], ◌∷◌, ◌++◌, All, length, get_or, map, drop, sum_by, refl, sym, ap, subst, lit<, arith}
 use Rattle.std.specs.Global.{Vec}
 use Rattle.std.specs.List.{AllByRecursion, list_any}
 use Rattle.std.proofs.lemmas.Bool.{cond-false, false≢true, le-ltb}
@@ -18,6 +18,7 @@ use Rattle.xr_record.specs.Stream.{Begun, Between, Cut, Inside, Open, Piece, Tra
 use Rattle.xr_commit.specs.Chain.{IsTrail}
 use Rattle.xr_commit.specs.Entries.{HasEntries}
 use Rattle.xr_commit.specs.ItemsOf.{items_in}
+use Rattle.xr_commit.specs.LogEnds.{IsCleanRecord}
 use Rattle.xr_commit.specs.LiveStream.{IsLiveIn}
 use Rattle.xr_commit.specs.LogRecords.{HasSuper, LogRecord, heads_of, log_of}
 use Rattle.xr_commit.specs.LoggedItems.{Logged}
@@ -31,7 +32,7 @@ use Rattle.xr_scan.specs.NextId.{next_id}
 use Rattle.xr_scan.specs.Numbered.{AreNumbered}
 use Rattle.xr_scan.specs.Replayed.{is_logged, replayed}
 use Rattle.xr_scan.specs.Replaying.{IsStateBlock, LogEach}
-use Rattle.xr_scan.specs.Scanned.{IsCleanRecord, IsScanned, copy_number, copy_of}
+use Rattle.xr_scan.specs.Scanned.{IsScanned, copy_number, copy_of}
 use Rattle.xr_scan.specs.Scanning.{HasItems, IsFoundIn, IsScannedIn}
 use Rattle.xr_scan.specs.declared.scanned.Scanned.{Scanned}
 use Rattle.xr_scan.specs.declared.scanning.LiveItems.{LiveItems}

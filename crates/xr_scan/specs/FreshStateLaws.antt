@@ -7,7 +7,7 @@ use Rattle.xr_record.specs.declared.entry.Entry.TheVariants.{Unmount}
 use Rattle.xr_record.specs.declared.head.Head.{Head}
 use Rattle.xr_commit.specs.LiveStream.{IsLiveIn}
 use Rattle.xr_commit.specs.LogRecords.{log_of}
-use Rattle.xr_scan.specs.Scanned.{IsCleanRecord}
+use Rattle.xr_commit.specs.LogEnds.{IsCleanRecord}
 use Rattle.xr_scan.specs.State.{Holds, State}
 
 -- the header of a fresh log's one record, which is its own tail and has none before it

@@ -5,10 +5,10 @@ use Rattle.xr_base.specs.Image.{block_of, part}
 use Rattle.xr_base.specs.declared.geometry.TheConstants.{BLOCK_BYTES, FILE_BLOCKS, FILES, FIRST_DATA_BLOCK, FIRST_FILE_BLOCK, FIRST_GROUP_BLOCK, GROUP_BLOCKS}
 use Rattle.xr_record.specs.declared.entry.Entry.{Entry}
 use Rattle.xr_record.specs.declared.head.Head.{Head}
-use Rattle.xr_record.specs.Operations.{operation_bytes}
-use Rattle.xr_record.specs.Stream.{Between, unmount}
+use Rattle.xr_record.specs.Stream.{Between}
+use Rattle.xr_commit.specs.LogEnds.{IsCleanRecord}
 use Rattle.xr_commit.specs.LiveStream.{IsLiveIn}
-use Rattle.xr_commit.specs.LogRecords.{HasSuper, LogRecord, log_of}
+use Rattle.xr_commit.specs.LogRecords.{HasSuper, log_of}
 use Rattle.xr_commit.specs.LoggedItems.{Logged}
 use Rattle.xr_commit.specs.Pending.{pending}
 use Rattle.xr_scan.specs.declared.scanned.Scanned.{Scanned}
@@ -43,10 +43,6 @@ blocks_from state first (suc n) = state.blocks first ∷ blocks_from state (suc 
 
 abbrev pub bytes_from : State → ℕ → ℕ → List ℕ
 bytes_from state first n = flat_map (λ (block : List ℕ). block) (blocks_from state first n)
-
--- the record marks a clean unmount
-abbrev pub IsCleanRecord : LogRecord → Type 0
-IsCleanRecord r = r.body ≡ operation_bytes unmount
 
 -- What was found is what the image holds, and what is needed to go on from there.
 pub record IsScanned (image : List ℕ) (scanned : Scanned) : Type 0 where

@@ -8,6 +8,7 @@ use Rattle.xr_record.specs.Stream.{Between}
 use Rattle.xr_commit.specs.declared.fault.ScanFault.{ScanFault}
 use Rattle.xr_commit.specs.declared.fault.ScanFault.TheVariants.{Debt}
 use Rattle.xr_commit.specs.ItemsOf.{items_in}
+use Rattle.xr_commit.specs.LogEnds.{IsCleanRecord}
 use Rattle.xr_commit.specs.LiveStream.{EndsOpen, IsLiveIn}
 use Rattle.xr_commit.specs.LoggedItems.{Logged}
 use Rattle.xr_commit.specs.LogRecords.{HasSuper, log_of}
@@ -20,7 +21,7 @@ use Rattle.xr_scan.specs.LoggedEntries.{LogAll, logged_items}
 use Rattle.xr_scan.specs.NextId.{next_id}
 use Rattle.xr_scan.specs.Replayed.{is_logged, replayed}
 use Rattle.xr_scan.specs.Replaying.{IsStateBlock, LogEach}
-use Rattle.xr_scan.specs.Scanned.{IsCleanRecord, copy_number, copy_of}
+use Rattle.xr_scan.specs.Scanned.{copy_number, copy_of}
 
 -- the items of the entries are those that the entries log, and few of their works are pending
 pub record HasItems (found : LiveItems) : Type 0 where

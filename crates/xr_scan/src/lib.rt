@@ -18,5 +18,6 @@ pub use laws::{
     scans_tell_states, whole_writes_make_no_false_record,
 };
 pub use layout::layout_is_fixed;
+pub use replay::lay_block;
 pub use scanned::Scanned;
 pub use scanning::scan;

@@ -64,8 +64,8 @@ fn lay_image(image: &[u8], block: &mut [u8])
     clear(rest);
 }
 
-/// Lays an image over the copy of its block, and marks the block as logged.
-fn lay_block(image: &[u8], block: u32, blocks: &mut [u8], dirty: &mut [bool])
+/// Lays an image over the copy of its block, with zeros after it, and marks the block as logged.
+pub fn lay_block(image: &[u8], block: u32, blocks: &mut [u8], dirty: &mut [bool])
     requires known { IsStateBlock block }
     requires fits { length image.now ≤ BLOCK_BYTES }
     requires copies { AreCopies blocks.old dirty.old }

@@ -1,4 +1,4 @@
-use Rattle.std.proofs.Common.{ℕ, List, [], ◌++◌, length, ap, sym, ◌∙◌, arith}
+use Rattle.std.proofs.Common.{ℕ, List, ◌++◌, length, ap, sym, ◌∙◌, arith}
 use Rattle.xr_headers.specs.PaddedLaws.{zero_padded_is, zero_padded_none}
 use Rattle.xr_scan.proofs.replay.lay_image.Goals as goal
 
