@@ -1,3 +1,12 @@
-mod JudgeLemmas
-mod SizeLemmas
-mod WalkLemmas
+pub mod FaultLemmas
+pub mod FileLemmas
+pub mod GroupLemmas
+pub mod ImageMapLemmas
+pub mod JudgeLemmas
+pub mod LoadLawLemmas
+pub mod LogLemmas
+pub mod ReadLemmas
+pub mod SizeLemmas
+pub mod TakenLemmas
+pub mod ToldLemmas
+pub mod WalkLemmas

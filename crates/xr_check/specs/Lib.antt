@@ -1,4 +1,9 @@
+pub mod CleanImages
 pub mod Differences
+pub mod LoadLaws
+pub mod LoadRefusals
+pub mod Loading
+pub mod Reading
 pub mod TreeOrderLaws
 pub mod TreeOrders
 pub mod VerdictLaws

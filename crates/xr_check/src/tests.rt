@@ -105,11 +105,11 @@ const ROWS: [Row; 11] = [
     },
 ];
 
-fn identifier() -> Uuid {
+pub(crate) fn identifier() -> Uuid {
     Uuid::from_bytes(*b"the image's uuid")
 }
 
-fn put(rt: &impl Abort, bytes: &mut [u8], at: usize, value: &[u8]) {
+pub(crate) fn put(rt: &impl Abort, bytes: &mut [u8], at: usize, value: &[u8]) {
     assert!(rt; at <= bytes.len() && value.len() <= bytes.len() - at);
     bytes[at..at + value.len()].copy_from_slice(value);
 }
@@ -123,7 +123,7 @@ fn close(rt: &impl Abort, leaf: &mut [u8], records: usize) {
     put(rt, leaf, SHORT_BB_CRC, &sum.to_le_bytes());
 }
 
-fn put_runs(rt: &impl Abort, leaf: &mut [u8], runs: &[(u32, u32)]) {
+pub(crate) fn put_runs(rt: &impl Abort, leaf: &mut [u8], runs: &[(u32, u32)]) {
     put(rt, leaf, SHORT_HEADER_BYTES, &[0; 8]);
     for (n, (start, len)) in runs.iter().enumerate() {
         assert!(rt; n < 100);

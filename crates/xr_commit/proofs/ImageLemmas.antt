@@ -10,8 +10,8 @@ use Rattle.xr_commit.specs.LiveStream.{EndsOpen, IsLiveIn, IsLiveStream, WasRead
 use Rattle.xr_commit.specs.LogRecords.{HasSuper, log_of}
 use Rattle.xr_commit.specs.Refusals.{IsReadable, OrNoMemory, OrOutside, RefusesImage, RefusesLog}
 use Rattle.xr_commit.specs.DiskFaults.{WasCounted}
+use Rattle.xr_commit.specs.DiskFaultLaws.{uncounted}
 use Rattle.xr_disk.specs.Seen.{WasSeen}
-use Rattle.xr_commit.proofs.LayerLemmas.{not_of_disk}
 
 -- what was read of the image: its identifier and its log
 pub record WasRead (seen : Option (List ℕ)) (uuid log : List ℕ) : Type 0 where
@@ -69,22 +69,6 @@ was_refused seen uuid log (Err fault) read refused = of_image seen uuid log faul
 pub was_read : (seen after : Option (List ℕ)) (uuid log bytes : List ℕ) → after ≡ seen → bytes ≡ log → WasSeen seen (λ image. HasSuper image uuid) → WasSeen after (λ image. log ≡ log_of image)
     → WasRead seen uuid bytes
 was_read seen after uuid log bytes same is superblock log_is = record { superblock = superblock; log_is = λ image at. is ∙ log_is image (same ∙ at) }
-
--- the log's refusals are not the disk's
-uncounted : (uuid log : List ℕ) (before after : ℕ) (fault : ScanFault) → OrNoMemory (RefusesLog uuid log) fault → WasCounted before after fault
-uncounted uuid log before after (Magic b) refused = tt
-uncounted uuid log before after (Version b) refused = tt
-uncounted uuid log before after (Length b) refused = tt
-uncounted uuid log before after (Checksum b) refused = tt
-uncounted uuid log before after (Place b) refused = tt
-uncounted uuid log before after (Operation b) refused = tt
-uncounted uuid log before after (ItemType b) refused = tt
-uncounted uuid log before after (Size b) refused = tt
-uncounted uuid log before after (Field b) refused = tt
-uncounted uuid log before after (Header b) refused = tt
-uncounted uuid log before after (Debt b) refused = tt
-uncounted uuid log before after (DiskFault n) refused = elim (not_of_disk uuid log n refused) [ ]
-uncounted uuid log before after NoMemory refused = tt
 
 pub was_uncounted : (uuid log : List ℕ) (before after : ℕ) (result : Result Live ScanFault) → IfErr result (OrNoMemory (RefusesLog uuid log))
     → IfErr result (WasCounted before after)

@@ -2,21 +2,16 @@
 use Rattle.std.proofs.Common.{◌≡◌, ◌∙◌, ℕ, List, All, refl, sym, subst, inl, inr}
 use Rattle.xr_record.specs.declared.entry.Entry.{Entry}
 use Rattle.xr_record.specs.declared.head.Head.{Head}
-use Rattle.xr_record.specs.declared.unsealing.SealFault.{SealFault}
-use Rattle.xr_record.specs.declared.unsealing.SealFault.TheVariants as seal
 use Rattle.xr_commit.specs.declared.fault.ScanFault.{ScanFault}
-use Rattle.xr_commit.specs.declared.fault.ScanFault.TheVariants.{DiskFault, Length}
+use Rattle.xr_commit.specs.declared.fault.ScanFault.TheVariants.{Length}
 use Rattle.xr_commit.specs.Chain.{HasReserve}
-use Rattle.xr_items.specs.declared.item.ItemFault.{ItemFault}
-use Rattle.xr_items.specs.declared.item.ItemFault.TheVariants.{ItemType, Size, Field}
-use Rattle.xr_commit.specs.BadItems.{refusal_at}
 use Rattle.xr_commit.specs.GoodItems.{EntriesAreGood}
 use Rattle.xr_commit.specs.ChainHeaders.{AreOfChain}
 use Rattle.xr_commit.specs.Entries.{HasEntries}
 use Rattle.xr_commit.specs.LiveStream.{IsLiveIn}
 use Rattle.xr_commit.specs.LogRecords.{IsNewest, LogRecord, home_of}
 use Rattle.xr_commit.specs.Operations.{KeepsUnmounts}
-use Rattle.xr_commit.specs.Refusals.{BreaksChain, RefusesBodies, RefusesLog, LeadsNowhere, RefusesLiveRecords, fault_of}
+use Rattle.xr_commit.specs.Refusals.{BreaksChain, RefusesBodies, RefusesLog, RefusesLiveRecords}
 
 -- the newest record, with its body
 abbrev pub top : (uuid log : List ℕ) (head : Head) → IsNewest uuid log head → LogRecord
@@ -54,29 +49,3 @@ is_live uuid log head heads hs entries n c same reserve unmounts said last items
   last = last;
   items = items;
 }
-
--- no layer names a fault of the disk
-not_of_seal : (broken : SealFault) (n : ℕ) → DiskFault n ≡ fault_of broken → ⊥
-not_of_seal (seal.Magic sector) n e = cc
-not_of_seal (seal.Version sector) n e = cc
-not_of_seal (seal.Length sector) n e = cc
-not_of_seal (seal.Checksum sector) n e = cc
-not_of_seal (seal.Place sector) n e = cc
-
-not_of_items : (why : ItemFault) (block n : ℕ) → DiskFault n ≡ refusal_at why block → ⊥
-not_of_items (ItemType place) block n e = cc
-not_of_items (Size place) block n e = cc
-not_of_items (Field place) block n e = cc
-
-not_of_chain : (uuid log : List ℕ) (head last : Head) (n : ℕ) → LeadsNowhere uuid log head last (DiskFault n) → ⊥
-not_of_chain uuid log head last n (inl named) = let e = named.1 in cc
-not_of_chain uuid log head last n (inr (inl lost)) = not_of_seal lost.0 n lost.2
-not_of_chain uuid log head last n (inr (inr astray)) = let e = astray.1 in cc
-
-pub not_of_disk : (uuid log : List ℕ) (n : ℕ) → RefusesLog uuid log (DiskFault n) → ⊥
-not_of_disk uuid log n (inl none) = let e = none.1 in cc
-not_of_disk uuid log n (inr (head, newest, inl broken)) = not_of_chain uuid log head.head broken.last.head n broken.nowhere
-not_of_disk uuid log n (inr (head, newest, inr (records, chain, inl cramped))) = let e = cramped.1 in cc
-not_of_disk uuid log n (inr (head, newest, inr (records, chain, inr (reserve, inl company)))) = let e = company.named in cc
-not_of_disk uuid log n (inr (head, newest, inr (records, chain, inr (reserve, inr (alone, inl wrong))))) = let e = wrong.named in cc
-not_of_disk uuid log n (inr (head, newest, inr (records, chain, inr (reserve, inr (alone, inr bad))))) = not_of_items bad.why bad.block n bad.named

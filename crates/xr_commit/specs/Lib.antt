@@ -2,6 +2,7 @@ pub mod BadItems
 pub mod Chain
 pub mod ChainHeaders
 pub mod CheckItems
+pub mod DiskFaultLaws
 pub mod DiskFaults
 pub mod Done
 pub mod Entries

@@ -1,0 +1,14 @@
+pub mod ChainParts
+pub mod ChainRoom
+pub mod ChainView
+pub mod CommittedBlocks
+pub mod CommittedLaws
+pub mod Events
+pub mod ExchangeParts
+pub mod FileWorks
+pub mod FirstRowLaws
+pub mod FirstRows
+pub mod GroupWorks
+pub mod OwnerRecords
+pub mod Readiness
+pub mod ReadinessLaws
