@@ -14,7 +14,7 @@ use Rattle.xr_commit.specs.BadItems.{IsBadFollower, IsBadItem, IsBadRegion, refu
 use Rattle.xr_commit.specs.CheckItems.{IsNextBad}
 use Rattle.xr_commit.specs.GoodItems.{EntriesAreGood, IsFollowed, IsGoodItem, ItemsAreGood, RegionsAreGood, Rises, last_after, last_of}
 use Rattle.xr_commit.specs.LoggedItems.{Logged, logged_regions}
-use Rattle.xr_scan.proofs.LoggedLemmas.{all_whole, first_of, long_follower, one_item, others_of, regions_tell, same_next, whole_item}
+use Rattle.xr_scan.specs.LoggedItemLaws.{all_whole, first_of, long_follower, one_item, others_of, regions_tell, same_next, whole_item}
 
 -- One item
 

@@ -19,7 +19,8 @@ use Rattle.xr_record.specs.RecordLaws.{no_magic_at_stamp}
 use Rattle.xr_record.specs.SealedRecordLaws.{sealed_head, sealed_magic, sealed_place}
 use Rattle.xr_commit.specs.LogRecords.{LogRecord, StandsAt, bytes_at, log_of}
 use Rattle.xr_scan.specs.FreshStateLaws.{unmount_head}
-use Rattle.xr_scan.proofs.FreshRecordLemmas.{fresh_record, length-unmount_body, unmount_body}
+use Rattle.xr_scan.proofs.FreshRecordLemmas.{fresh_record, length-unmount_body}
+use Rattle.xr_scan.specs.CleanStreamLaws.{unmount_body}
 use Rattle.xr_base.specs.Checksum.{with_crc}
 
 -- Parts of parts

@@ -9,13 +9,10 @@ use Rattle.xr_headers.specs.FreshImage.{first_lsn, record_opening, stamped_unmou
 use Rattle.xr_headers.specs.declared.layout.TheConstants.{MISSING}
 use Rattle.xr_headers.specs.Padded.{words, zero_padded}
 use Rattle.xr_headers.specs.PaddedLaws.{zero_padded_is}
-use Rattle.xr_record.specs.Operations.{operation_bytes, raw_operation}
+use Rattle.xr_record.specs.Operations.{raw_operation}
 use Rattle.xr_record.specs.Record.{fields_before, moved, padded_body, record_sectors, sectors_with, zeros}
-use Rattle.xr_record.specs.Stream.{unmount}
+use Rattle.xr_scan.specs.CleanStreamLaws.{unmount_body}
 use Rattle.xr_scan.specs.FreshStateLaws.{unmount_head}
-
-unfoldable pub unmount_body : List ℕ
-unmount_body = operation_bytes unmount
 
 -- the record's fields with these eight bytes as its place
 fields_at : List ℕ → List ℕ → ℕ → List ℕ

@@ -22,7 +22,7 @@ use Rattle.xr_commit.specs.Operations.{HoldsOperations, KeepsUnmounts}
 use Rattle.xr_commit.specs.OneRecordLaws.{one_record}
 use Rattle.xr_scan.specs.FreshStateLaws.{FreshHoldsItsBlocks, FreshIsLive, unmount_head}
 use Rattle.xr_scan.proofs.FreshLogLemmas.{fresh_sealed, none_later}
-use Rattle.xr_scan.proofs.FreshRecordLemmas.{unmount_body}
+use Rattle.xr_scan.specs.CleanStreamLaws.{streams, unmount_body}
 
 abbrev unmount_record : List ℕ → ℕ → LogRecord
 unmount_record uuid cycle = record { head = unmount_head uuid cycle; body = unmount_body }
@@ -34,15 +34,6 @@ one_operation uuid cycle = record { whole = refl; number = refl }
 alone : (uuid : List ℕ) (cycle : ℕ) → KeepsUnmounts (unmount_record uuid cycle)
 unfolding unmount_body raw_operation
 alone uuid cycle holds = record { one = refl; own_tail = refl }
-
-pub streams : IsStream unmount_body (Unmounting ∷ []) Between []
-unfolding unmount_body raw_operation
-streams = record {
-  whole = refl;
-  each = (tt, tt);
-  good = tt;
-  partial = record { less = λ body. (let h = body.header in absurd (omega (arith, h))); right = λ long. absurd (omega (arith, long)) };
-}
 
 said : (uuid : List ℕ) (cycle : ℕ) → HasEntries (unmount_record uuid cycle ∷ []) (Unmount ∷ [])
 said uuid cycle = record {

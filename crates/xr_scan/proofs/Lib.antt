@@ -1,7 +1,6 @@
 pub mod BadStreamLemmas
 pub mod BlockRunLemmas
 pub mod ChainRefusalLemmas
-pub mod CleanLemmas
 pub mod EntryReplayLemmas
 pub mod FalseRecordLemmas
 pub mod FirstBadLemmas
@@ -11,7 +10,6 @@ pub mod FreshLogLemmas
 pub mod FreshRecordLemmas
 pub mod FreshStateLemmas
 pub mod HomeLemmas
-pub mod LoggedLemmas
 pub mod NextIdLemmas
 pub mod NumberedLemmas
 pub mod PendingOrderLemmas

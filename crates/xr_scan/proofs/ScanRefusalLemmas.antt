@@ -21,7 +21,7 @@ use Rattle.xr_scan.specs.Scanned.{HasTooMany, IsScanned}
 use Rattle.xr_scan.specs.declared.scanned.Scanned.{Scanned}
 use Rattle.xr_scan.specs.Scanning.{OwesTooMuch}
 use Rattle.xr_scan.specs.declared.scanning.LiveItems.{LiveItems}
-use Rattle.xr_scan.proofs.LoggedLemmas.{live_logs_items}
+use Rattle.xr_scan.specs.LoggedItemLaws.{live_logs_items}
 use Rattle.xr_scan.proofs.RefusalLemmas.{live_is_taken, one_refusal}
 use Rattle.xr_scan.proofs.ScannedLemmas.{scanned_has_few}
 

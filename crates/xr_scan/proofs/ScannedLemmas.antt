@@ -7,21 +7,8 @@ use Rattle.xr_commit.specs.LoggedItems.{Logged}
 use Rattle.xr_commit.specs.declared.pending.Pending.{Pending}
 use Rattle.xr_commit.specs.Pending.{pending}
 use Rattle.xr_scan.specs.LoggedEntries.{logged_items}
-use Rattle.xr_scan.specs.ScannedLaws.{ScannedHasFew, ScannedHolds, TooManyAreHeld}
-use Rattle.xr_scan.specs.State.{works_of}
+use Rattle.xr_scan.specs.ScannedLaws.{ScannedHasFew, TooManyAreHeld}
 use Rattle.xr_scan.proofs.StateLemmas.{one_logged, one_super}
-
-pub scanned_holds : ScannedHolds
-scanned_holds image scanned is = record {
-  superblock = is.superblock;
-  heads = is.heads;
-  entries = is.entries;
-  live_in = is.live_in;
-  logged = is.logged;
-  log_all = is.log_all;
-  blocks = is.blocks;
-  works = ap works_of is.pending_are;
-}
 
 pub scanned_has_few : ScannedHasFew
 scanned_has_few image scanned is many =

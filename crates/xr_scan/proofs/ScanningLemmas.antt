@@ -36,9 +36,9 @@ use Rattle.xr_scan.specs.Scanned.{IsScanned, copy_number, copy_of}
 use Rattle.xr_scan.specs.Scanning.{HasItems, IsFoundIn, IsScannedIn}
 use Rattle.xr_scan.specs.declared.scanned.Scanned.{Scanned}
 use Rattle.xr_scan.specs.declared.scanning.LiveItems.{LiveItems}
-use Rattle.xr_scan.proofs.CleanLemmas.{unmounted}
-use Rattle.xr_scan.proofs.FreshRecordLemmas.{unmount_body}
-use Rattle.xr_scan.proofs.LoggedLemmas.{live_logs_items, logged_are_good}
+use Rattle.xr_scan.specs.CleanStreamLaws.{unmounted}
+use Rattle.xr_scan.specs.CleanStreamLaws.{unmount_body}
+use Rattle.xr_scan.specs.LoggedItemLaws.{live_logs_items, logged_are_good}
 use Rattle.xr_scan.proofs.NumberedLemmas.{all_valid, next_is_above}
 use Rattle.xr_scan.proofs.PlacedLemmas.{live_is_placed}
 

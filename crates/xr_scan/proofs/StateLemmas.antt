@@ -18,7 +18,7 @@ use Rattle.xr_scan.specs.LoggedEntries.{LogAll, logged_items}
 use Rattle.xr_scan.specs.Replayed.{replayed}
 use Rattle.xr_scan.specs.State.{works_of}
 use Rattle.xr_scan.specs.StateLaws.{IsOneState, SameIsHeld}
-use Rattle.xr_scan.proofs.LoggedLemmas.{one_logging}
+use Rattle.xr_scan.specs.LoggedItemLaws.{one_logging}
 
 pub one_super : (image u v : List ℕ) → HasSuper image u → HasSuper image v → u ≡ v
 one_super image u v one two = super_block-uuid u v one.whole two.whole (sym one.block ∙ two.block)

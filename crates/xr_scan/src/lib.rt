@@ -4,7 +4,7 @@
 mod blocks;
 mod homes;
 mod laws;
-mod layout;
+pub mod layout;
 mod next_id;
 mod replay;
 mod scanned;

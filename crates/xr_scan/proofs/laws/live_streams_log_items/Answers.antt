@@ -1,4 +1,4 @@
-use Rattle.xr_scan.proofs.LoggedLemmas.{live_logs_items, logged_are_good, one_logging}
+use Rattle.xr_scan.specs.LoggedItemLaws.{live_logs_items, logged_are_good, one_logging}
 use Rattle.xr_scan.proofs.NumberedLemmas.{next_is_above}
 use Rattle.xr_scan.proofs.PendingOrderLemmas.{pending_rise}
 use Rattle.xr_scan.proofs.laws.live_streams_log_items.Goals as goal

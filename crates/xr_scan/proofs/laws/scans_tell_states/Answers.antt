@@ -1,4 +1,5 @@
-use Rattle.xr_scan.proofs.ScannedLemmas.{scanned_has_few, scanned_holds, too_many_are_held}
+use Rattle.xr_scan.specs.ScannedLaws.{scanned_holds}
+use Rattle.xr_scan.proofs.ScannedLemmas.{scanned_has_few, too_many_are_held}
 use Rattle.xr_scan.proofs.laws.scans_tell_states.Goals as goal
 
 pub returns-clause-holds : goal.returns-clause-holds

@@ -8,9 +8,9 @@ use Rattle.xr_record.specs.declared.head.Head.{Head}
 use Rattle.xr_record.specs.declared.head.Lsn.{Lsn}
 use Rattle.xr_record.specs.Lsn.{lsn_number}
 use Rattle.xr_record.specs.OneWayLaws.{one_reading}
-use Rattle.xr_record.specs.Operations.{raw_operation}
+use Rattle.xr_record.specs.Operations.{operation_bytes, raw_operation}
 use Rattle.xr_record.specs.Rules.{IsStream}
-use Rattle.xr_record.specs.Stream.{Between, Piece, Unmounting, entry}
+use Rattle.xr_record.specs.Stream.{Between, Piece, Unmounting, entry, unmount}
 use Rattle.xr_commit.specs.Chain.{IsTrail}
 use Rattle.xr_commit.specs.Entries.{HasEntries, joined_bodies}
 use Rattle.xr_commit.specs.LiveStream.{IsLiveIn}
@@ -23,8 +23,18 @@ use Rattle.xr_scan.specs.LoggedEntries.{LogAll, logged_items}
 use Rattle.xr_scan.specs.Replayed.{replayed}
 use Rattle.xr_commit.specs.LogEnds.{IsCleanRecord}
 use Rattle.xr_scan.specs.State.{works_of}
-use Rattle.xr_scan.proofs.FreshRecordLemmas.{unmount_body}
-use Rattle.xr_scan.proofs.FreshStateLemmas.{streams}
+
+unfoldable pub unmount_body : List ℕ
+unmount_body = operation_bytes unmount
+
+pub streams : IsStream unmount_body (Unmounting ∷ []) Between []
+unfolding unmount_body raw_operation
+streams = record {
+  whole = refl;
+  each = (tt, tt);
+  good = tt;
+  partial = record { less = λ body. (let h = body.header in absurd (omega (arith, h))); right = λ long. absurd (omega (arith, long)) };
+}
 
 -- what all records of a trail have, the newest has
 pub trail_ends : (P : LogRecord → Type 0) (uuid log : List ℕ) (tail : Lsn) (newest oldest : LogRecord) (later : List LogRecord) → IsTrail uuid log tail newest oldest later
@@ -76,6 +86,14 @@ unmounted uuid log heads entries live clean =
     let records : live.records ≡ live.head ∷ [] =
     chain.records_are ∙ alone uuid log live.head.head.tail live.head chain.oldest chain.later chain.trail (chain.ends ∙ own) in
     record { alone = records; said = said_alone live.head entries body (subst (λ (rs : List LogRecord). HasEntries rs entries) records live.entries_are) }
+
+-- and it ends between two transactions
+pub ends_between : (uuid log : List ℕ) (heads : List Head) (entries : List Entry) (live : IsLiveIn uuid log heads entries) → IsCleanRecord live.head → live.entries_are.o ≡ Between
+ends_between uuid log heads entries live clean =
+    let e = live.entries_are in
+    let same : joined_bodies live.records ≡ unmount_body =
+    ap joined_bodies (unmounted uuid log heads entries live clean).alone ∙ append-nil live.head.body ∙ body_is live.head clean in
+    (one_reading unmount_body e.pieces (Unmounting ∷ []) e.o Between e.rest [] (subst (λ (bytes : List ℕ). IsStream bytes e.pieces e.o e.rest) same e.stream) streams).1
 
 pub clean_holds_its_blocks : CleanHoldsItsBlocks
 clean_holds_its_blocks image state holds clean =

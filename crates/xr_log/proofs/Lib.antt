@@ -1,0 +1,17 @@
+pub mod AppendingLemmas
+pub mod DueLemmas
+pub mod OutsideLemmas
+pub mod PositionLemmas
+pub mod PushLemmas
+pub mod StandingLemmas
+pub mod StreamPushLemmas
+pub mod TornLemmas
+pub mod WritingLemmas
+pub mod LayingLemmas
+pub mod NextHeadLemmas
+pub mod StateLemmas
+pub mod ForceLemmas
+pub mod LeaveLemmas
+pub mod WholeStreamLemmas
+pub mod ResumeLemmas
+pub mod ResumedLemmas

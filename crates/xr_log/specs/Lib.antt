@@ -1,0 +1,16 @@
+pub mod Appending
+pub mod Calls
+pub mod Forces
+pub mod Gathered
+pub mod Held
+pub mod Histories
+pub mod HistoryLaws
+pub mod KeepsNow
+pub mod Layout
+pub mod Positions
+pub mod Pushes
+pub mod Resumes
+pub mod Slots
+pub mod States
+pub mod TornWrites
+pub mod Writing
