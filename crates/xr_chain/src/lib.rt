@@ -16,6 +16,10 @@ mod roll_group;
 mod roll_map;
 mod roll_swap;
 mod staging;
+#[cfg(test)]
+mod tests;
+#[cfg(test)]
+mod worked;
 mod works;
 
 pub use chain::{CHAIN_WORKS, Chain, Need};

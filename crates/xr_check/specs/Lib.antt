@@ -8,3 +8,4 @@ pub mod TreeOrderLaws
 pub mod TreeOrders
 pub mod VerdictLaws
 pub mod Verdicts
+pub mod WalkLaws

@@ -19,4 +19,6 @@ pub use judging::judge;
 pub use laws::{images_have_one_verdict, load_refusals_are_exact, verdicts_are_determined};
 pub use loaded::Loaded;
 pub use loading::{check, load};
+pub use trees::{CountTree, FreeTree, OwnerTree};
 pub use verdict::{TreeName, Verdict};
+pub use walk::GroupTree;

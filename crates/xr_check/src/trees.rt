@@ -8,7 +8,7 @@ use xr_group::Group;
 use xr_maps::{Counted, Rev};
 
 /// The records of owners.
-pub(crate) struct OwnerTree;
+pub struct OwnerTree;
 
 impl GroupTree for OwnerTree {
     ghost use Rattle.xr_check.specs.TreeOrderLaws.{owners_ordered};
@@ -44,7 +44,7 @@ impl GroupTree for OwnerTree {
 }
 
 /// The records of counts, staged ones behind all others.
-pub(crate) struct CountTree;
+pub struct CountTree;
 
 impl GroupTree for CountTree {
     ghost use Rattle.xr_check.specs.TreeOrderLaws.{counts_ordered};
@@ -80,7 +80,7 @@ impl GroupTree for CountTree {
 }
 
 /// The free runs by block.
-pub(crate) struct FreeTree;
+pub struct FreeTree;
 
 impl GroupTree for FreeTree {
     ghost use Rattle.xr_check.specs.TreeOrderLaws.{frees_ordered};

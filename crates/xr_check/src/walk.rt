@@ -8,7 +8,7 @@ use xr_base::Addr;
 use xr_group::Group;
 
 /// A tree of a group, by the records that it holds.
-pub(crate) trait GroupTree {
+pub trait GroupTree {
     ghost use Rattle.std.specs.Prelude.{List};
     ghost use Rattle.xr_base.specs.declared.address.Addr.{Addr};
     ghost use Rattle.xr_group.specs.Group.{GroupState};

@@ -8,6 +8,7 @@ pub mod Done
 pub mod Entries
 pub mod GoodItems
 pub mod HeadLaws
+pub mod ItemLenLaws
 pub mod ItemsOf
 pub mod ItemsOfLaws
 pub mod Layout

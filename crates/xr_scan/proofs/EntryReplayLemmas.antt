@@ -9,11 +9,7 @@ use Rattle.xr_commit.specs.ItemsOf.{items_in}
 use Rattle.xr_commit.specs.LoggedItems.{Logged}
 use Rattle.xr_scan.specs.Replaying.{AreCopies, LogEach, LogsEntry, Replays}
 use Rattle.xr_scan.specs.Scanned.{copy_number}
-use Rattle.xr_scan.proofs.ReplayItemLemmas.{or_false}
-use Rattle.xr_scan.proofs.ReplayLoopLemmas.{replays_then}
-
-pub replays_none : (old : List ℕ) (marks : List Bool) → AreCopies old marks → Replays [] old marks old marks
-replays_none old marks copies = record { copies = copies; blocks = λ block has. refl; dirty = λ block has. sym (or_false (get_or marks (copy_number block) false)) }
+use Rattle.xr_scan.specs.CopyLaws.{replays_none, replays_then}
 
 pub as_many_lists : (entries : List Entry) (lists : List (List Item)) (ls : List Logged) → LogEach entries lists ls → length lists ≡ length entries
 as_many_lists [] [] ls each = refl

@@ -12,7 +12,7 @@ use Rattle.xr_commit.specs.LoggedItems.{Logged}
 use Rattle.xr_scan.specs.Replayed.{is_logged, replayed}
 use Rattle.xr_scan.specs.Replaying.{IsStateBlock, Replays}
 use Rattle.xr_scan.specs.Scanned.{copy_number, copy_of}
-use Rattle.xr_scan.proofs.ReplayItemLemmas.{placed}
+use Rattle.xr_scan.specs.CopyLaws.{placed}
 
 -- what an image has that has P
 pub seen_more : {T E : Type 0} (r : Result T E) (seen : Option (List ℕ)) (P Q : List ℕ → Type 0) → ((image : List ℕ) → P image → Q image) → OnOk r (WasSeen seen P) → OnOk r (WasSeen seen Q)

@@ -3,12 +3,8 @@ use Rattle.std.proofs.Common.{◌≡◌, ◌||◌, Bool, true, false, [], ◌∷
 use Rattle.std.proofs.lemmas.Bool.{false≢true}
 use Rattle.xr_base.specs.declared.geometry.TheConstants.{BLOCK_BYTES}
 use Rattle.xr_headers.specs.Padded.{zero_padded}
-use Rattle.xr_scan.specs.ReplayLaws.{LoggedIsWhole, ReplayGoesOn, UnloggedStays}
+use Rattle.xr_scan.specs.ReplayLaws.{LoggedIsWhole, UnloggedStays}
 use Rattle.xr_scan.specs.Replayed.{is_logged, logs_block, replayed}
-
-pub replay_goes_on : ReplayGoesOn
-replay_goes_on block bytes [] ms = refl
-replay_goes_on block bytes (l ∷ ls) ms = replay_goes_on block (if logs_block block l.item then zero_padded BLOCK_BYTES l.bytes else bytes) ls ms
 
 pub unlogged_stays : UnloggedStays
 unlogged_stays block bytes [] none = refl

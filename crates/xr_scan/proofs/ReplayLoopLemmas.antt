@@ -12,28 +12,8 @@ use Rattle.xr_scan.specs.Replayed.{is_logged, logs_block}
 use Rattle.xr_scan.specs.Replaying.{AreCopies, IsNextLogged, Replays}
 use Rattle.xr_scan.specs.Scanned.{copy_number, copy_of}
 use Rattle.xr_scan.specs.Replayed.{replayed}
-use Rattle.xr_scan.proofs.ReplayItemLemmas.{or_false}
-use Rattle.xr_scan.proofs.ReplayLemmas.{replay_goes_on}
+use Rattle.xr_scan.specs.CopyLaws.{or_false, replays_then}
 use Rattle.xr_commit.specs.ItemsOfLaws.{length-logged_regions}
-
-or_assoc : (a b c : Bool) → ((a || b) || c) ≡ (a || (b || c))
-or_assoc true b c = refl
-or_assoc false b c = refl
-
-logged_append : (block : ℕ) (ls ms : List Logged) → is_logged block (ls ++ ms) ≡ (is_logged block ls || is_logged block ms)
-logged_append block [] ms = refl
-logged_append block (l ∷ ls) ms =
-    ap (λ (b : Bool). logs_block block l.item || b) (logged_append block ls ms) ∙ sym (or_assoc (logs_block block l.item) (is_logged block ls) (is_logged block ms))
-
-pub replays_then : (ls ms : List Logged) (a b c : List ℕ) (m n o : List Bool) → Replays ls a m b n → Replays ms b n c o → Replays (ls ++ ms) a m c o
-replays_then ls ms a b c m n o first second = record {
-  copies = second.copies;
-  blocks = λ block has. second.blocks block has ∙ ap (λ (bytes : List ℕ). replayed block bytes ms) (first.blocks block has)
-      ∙ sym (replay_goes_on block (copy_of a block) ls ms);
-  dirty = λ block has. second.dirty block has ∙ ap (λ (x : Bool). x || is_logged block ms) (first.dirty block has)
-      ∙ or_assoc (get_or m (copy_number block) false) (is_logged block ls) (is_logged block ms)
-      ∙ ap (λ (x : Bool). get_or m (copy_number block) false || x) (sym (logged_append block ls ms));
-}
 
 -- the first of these items were replayed, whose regions come to this place
 pub record IsReplaying (ls : List Logged) (at i : ℕ) (old : List ℕ) (marks : List Bool) (now : List ℕ) (marks' : List Bool) : Type 0 where

@@ -13,7 +13,7 @@ use Rattle.xr_scan.specs.Replaying.{IsStateBlock}
 use Rattle.xr_scan.specs.Scanned.{copy_number}
 use Rattle.xr_scan.proofs.BlockRunLemmas.{length-part}
 use Rattle.xr_scan.proofs.HomeLemmas.{all_read, file_home, group_home, laid_inside, piece}
-use Rattle.xr_scan.proofs.ReplayItemLemmas.{placed}
+use Rattle.xr_scan.specs.CopyLaws.{placed}
 
 -- an image with this log and the first of these blocks
 record HasBelow (uuid log homes : List ℕ) (n : ℕ) (image : List ℕ) : Type 0 where

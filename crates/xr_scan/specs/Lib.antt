@@ -1,5 +1,6 @@
 pub mod CleanLaws
 pub mod CleanStreamLaws
+pub mod CopyLaws
 pub mod FalseRecordLaws
 pub mod FalseRecords
 pub mod FreshStateLaws

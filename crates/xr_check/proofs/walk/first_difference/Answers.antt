@@ -1,4 +1,5 @@
-use Rattle.xr_check.proofs.WalkLemmas.{both_end, both_go_on, list_goes_on, one_more, tree_goes_on}
+use Rattle.xr_check.proofs.WalkLemmas.{both_end, both_go_on, list_goes_on, tree_goes_on}
+use Rattle.xr_check.specs.WalkLaws.{one_more}
 use Rattle.xr_check.proofs.walk.first_difference.Goals as goal
 
 pub returns-in_default : goal.returns-in_default

@@ -1,4 +1,4 @@
-use Rattle.xr_check.proofs.WalkLemmas.{HasWalked}
+use Rattle.xr_check.specs.WalkLaws.{HasWalked}
 use Rattle.xr_check.proofs.walk.first_difference.Given as goal
 
 abbrev pub invariant-loop-wanted : goal.invariant-loop-wanted

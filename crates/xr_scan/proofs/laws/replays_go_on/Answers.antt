@@ -1,4 +1,5 @@
-use Rattle.xr_scan.proofs.ReplayLemmas.{logged_is_whole, replay_goes_on, unlogged_stays}
+use Rattle.xr_scan.proofs.ReplayLemmas.{logged_is_whole, unlogged_stays}
+use Rattle.xr_scan.specs.CopyLaws.{replay_goes_on}
 use Rattle.xr_scan.proofs.laws.replays_go_on.Goals as goal
 
 pub returns-clause-on : goal.returns-clause-on

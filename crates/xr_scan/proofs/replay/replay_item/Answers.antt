@@ -1,6 +1,7 @@
 use Rattle.std.proofs.Common.{sym}
 use Rattle.xr_record.specs.RegionLaws.{region_read}
-use Rattle.xr_scan.proofs.ReplayItemLemmas.{count_none, count_some, follower_fits, follower_is, follower_within, replays_one}
+use Rattle.xr_scan.proofs.ReplayItemLemmas.{count_none, count_some, follower_fits, follower_is, follower_within}
+use Rattle.xr_scan.specs.CopyLaws.{replays_one}
 use Rattle.xr_scan.proofs.replay.replay_item.Goals as goal
 
 pub returns-in_default-clause-count : goal.returns-in_default-clause-count
