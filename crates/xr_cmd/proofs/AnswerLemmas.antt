@@ -6,20 +6,18 @@ use Rattle.std.proofs.lemmas.Bool.{cases_lt}
 use Rattle.xr_base.specs.Cause.{Rose}
 use Rattle.xr_disk.specs.Stream.{Took}
 use Rattle.xr_disk.specs.Disk.{DiskView}
-use Rattle.xr_commit.specs.declared.fault.ScanFault.{ScanFault}
-use Rattle.xr_commit.specs.declared.fault.ScanFault.TheVariants as scan
 use Rattle.xr_cmd.specs.declared.failure.Failure.{Failure}
-use Rattle.xr_cmd.specs.declared.failure.Failure.TheVariants.{BadLine, SourceFailed, DiskFailed, Image, NoMemory}
+use Rattle.xr_cmd.specs.declared.failure.Failure.TheVariants as failed
 use Rattle.xr_cmd.specs.declared.program.Status.{Status}
-use Rattle.xr_cmd.specs.declared.program.Status.TheVariants.{Done, Words, Line, Source, Sink, Disk, Foreign, Memory}
+use Rattle.xr_cmd.specs.declared.program.Status.TheVariants.{Differs, Dirty, Disk, Done, Foreign, Line, Memory, Sink, Source, Words}
 use Rattle.xr_cmd.specs.declared.script.ScriptFault.{ScriptFault}
 use Rattle.xr_cmd.specs.declared.script.ScriptFault.TheVariants as script
 use Rattle.xr_cmd.specs.declared.streams.ReadFault.{ReadFault}
 use Rattle.xr_cmd.specs.declared.streams.ReadFault.TheVariants as read
 use Rattle.xr_cmd.specs.declared.script.TheConstants.{MAX_BYTES}
-use Rattle.xr_cmd.specs.Answer.{ExpectsOf, IsRefused, NamesForeign, Refuses, RefusesScan, Says, code_of, Finishes}
+use Rattle.xr_cmd.specs.Answer.{ExpectsOf, IsRefused, Refuses, Says, code_of, Finishes}
 use Rattle.xr_cmd.specs.declared.command_line.Command.{Command}
-use Rattle.xr_cmd.specs.declared.command_line.Command.TheVariants.{Expect, Mkfs, Show, ShowLog}
+use Rattle.xr_cmd.specs.declared.command_line.Command.TheVariants.{Check, Expect, Mkfs, Show, ShowLog}
 use Rattle.xr_cmd.specs.CommandLine.{FormatsDisk}
 use Rattle.xr_cmd.specs.Failures.{WasLeft, HasBadLine, HasFailure, ExpectFails, failure_of_read, failure_of_script}
 use Rattle.xr_cmd.specs.Expect.{Expects}
@@ -80,53 +78,29 @@ pub script_failure : (left : Option (List ℕ)) (before after : ℕ) (bytes : Li
 script_failure left before after bytes (script.Line number) counted front first = (has_bad_line left bytes number front first, counted)
 script_failure left before after bytes script.NoMemory counted front first = tt
 
--- the answer to a failure is an answer to the words
-abbrev IsOfFailure : Status → Type 0
-IsOfFailure Done = ⊥
-IsOfFailure Words = ⊥
-IsOfFailure said = Unit {0}
-
-foreign_fails : (block rule : ℕ) (said : Status) (text : List ℕ) → NamesForeign block rule said text → IsOfFailure said
-foreign_fails block rule Done text names = names
-foreign_fails block rule Words text names = names
-foreign_fails block rule Line text names = tt
-foreign_fails block rule Source text names = tt
-foreign_fails block rule Sink text names = tt
-foreign_fails block rule Disk text names = tt
-foreign_fails block rule Foreign text names = tt
-foreign_fails block rule Memory text names = tt
-
-scan_fails : (fault : ScanFault) (said : Status) (text : List ℕ) → RefusesScan fault said text → IsOfFailure said
-scan_fails (scan.Magic block) said text refuses = foreign_fails block 3 said text refuses
-scan_fails (scan.Version block) said text refuses = foreign_fails block 4 said text refuses
-scan_fails (scan.Length block) said text refuses = foreign_fails block 5 said text refuses
-scan_fails (scan.Checksum block) said text refuses = foreign_fails block 6 said text refuses
-scan_fails (scan.Place block) said text refuses = foreign_fails block 7 said text refuses
-scan_fails (scan.Operation block) said text refuses = foreign_fails block 8 said text refuses
-scan_fails (scan.ItemType block) said text refuses = foreign_fails block 9 said text refuses
-scan_fails (scan.Size block) said text refuses = foreign_fails block 10 said text refuses
-scan_fails (scan.Field block) said text refuses = foreign_fails block 11 said text refuses
-scan_fails (scan.Header block) said text refuses = foreign_fails block 12 said text refuses
-scan_fails (scan.Debt block) said text refuses = foreign_fails block 23 said text refuses
-scan_fails (scan.DiskFault faults) said text refuses = subst IsOfFailure (sym refuses.0) tt
-scan_fails scan.NoMemory said text refuses = subst IsOfFailure (sym refuses.0) tt
-
+-- a failure is answered neither as the end of a command nor as words that are none's
 refuses_not_done : (failure : Failure) (text : List ℕ) → ¬ Refuses failure Done text
-refuses_not_done (BadLine number) text refuses = refuses
-refuses_not_done SourceFailed text refuses = refuses
-refuses_not_done DiskFailed text refuses = refuses
-refuses_not_done (Image fault) text refuses = scan_fails fault Done text refuses
-refuses_not_done NoMemory text refuses = refuses
+refuses_not_done (failed.BadLine number) text refuses = refuses
+refuses_not_done failed.SourceFailed text refuses = refuses
+refuses_not_done failed.DiskFailed text refuses = refuses
+refuses_not_done (failed.Differs _ _ _) text refuses = refuses
+refuses_not_done (failed.Dirty lsn) text refuses = refuses
+refuses_not_done (failed.Foreign block rule) text refuses = refuses
+refuses_not_done failed.NoMemory text refuses = refuses
 
 refuses_not_words : (failure : Failure) (text : List ℕ) → ¬ Refuses failure Words text
-refuses_not_words (BadLine number) text refuses = refuses
-refuses_not_words SourceFailed text refuses = refuses
-refuses_not_words DiskFailed text refuses = refuses
-refuses_not_words (Image fault) text refuses = scan_fails fault Words text refuses
-refuses_not_words NoMemory text refuses = refuses
+refuses_not_words (failed.BadLine number) text refuses = refuses
+refuses_not_words failed.SourceFailed text refuses = refuses
+refuses_not_words failed.DiskFailed text refuses = refuses
+refuses_not_words (failed.Differs _ _ _) text refuses = refuses
+refuses_not_words (failed.Dirty lsn) text refuses = refuses
+refuses_not_words (failed.Foreign block rule) text refuses = refuses
+refuses_not_words failed.NoMemory text refuses = refuses
 
 pub says_refused : (words : List (List ℕ)) (left : Option (List ℕ)) (before after : ℕ) (old new : DiskView) (said : Status) (text : List ℕ)
     → IsRefused words left before after old new said text → Says words left before after old new said text
+says_refused words left before after old new Differs text refused = refused
+says_refused words left before after old new Dirty text refused = refused
 says_refused words left before after old new Done text refused = absurd (refuses_not_done refused.failure text refused.refuses)
 says_refused words left before after old new Words text refused = absurd (refuses_not_words refused.failure text refused.refuses)
 says_refused words left before after old new Line text refused = refused
@@ -138,6 +112,7 @@ says_refused words left before after old new Memory text refused = refused
 
 done_is_zero : (said : Status) → code_of said ≡ 0 → said ≡ Done
 done_is_zero Done e = refl
+done_is_zero Differs e = absurd (omega arith)
 done_is_zero Words e = absurd (omega arith)
 done_is_zero Line e = absurd (omega arith)
 done_is_zero Source e = absurd (omega arith)
@@ -145,21 +120,26 @@ done_is_zero Sink e = absurd (omega arith)
 done_is_zero Disk e = absurd (omega arith)
 done_is_zero Foreign e = absurd (omega arith)
 done_is_zero Memory e = absurd (omega arith)
+done_is_zero Dirty e = absurd (omega arith)
 
 -- want of memory that formatting answers is its own
 pub format_wants_memory : (left : Option (List ℕ)) (before after : ℕ) (old new : DiskView) (command : Command) (failure : Failure) (text : List ℕ)
-    → FormatsDisk command → HasFailure left before after old new command failure → Refuses failure Memory text → failure ≡ NoMemory
-format_wants_memory left before after old new (Mkfs uuid) (BadLine number) text formats has refuses = absurd has
-format_wants_memory left before after old new (Mkfs uuid) SourceFailed text formats has refuses = absurd has
-format_wants_memory left before after old new (Mkfs uuid) DiskFailed text formats has refuses = absurd refuses
-format_wants_memory left before after old new (Mkfs uuid) (Image fault) text formats has refuses = absurd has
-format_wants_memory left before after old new (Mkfs uuid) NoMemory text formats has refuses = refl
+    → FormatsDisk command → HasFailure left before after old new command failure → Refuses failure Memory text → failure ≡ failed.NoMemory
+format_wants_memory left before after old new (Mkfs uuid) (failed.BadLine number) text formats has refuses = absurd has
+format_wants_memory left before after old new (Mkfs uuid) failed.SourceFailed text formats has refuses = absurd has
+format_wants_memory left before after old new (Mkfs uuid) failed.DiskFailed text formats has refuses = absurd refuses
+format_wants_memory left before after old new (Mkfs uuid) (failed.Differs _ _ _) text formats has refuses = absurd has
+format_wants_memory left before after old new (Mkfs uuid) (failed.Dirty lsn) text formats has refuses = absurd has
+format_wants_memory left before after old new (Mkfs uuid) (failed.Foreign block rule) text formats has refuses = absurd has
+format_wants_memory left before after old new (Mkfs uuid) failed.NoMemory text formats has refuses = refl
 format_wants_memory left before after old new Expect failure text formats has refuses = absurd formats
+format_wants_memory left before after old new Check failure text formats has refuses = absurd formats
 format_wants_memory left before after old new (Show part) failure text formats has refuses = absurd formats
 format_wants_memory left before after old new ShowLog failure text formats has refuses = absurd formats
 
 memory_is_eight : (said : Status) → code_of said ≡ 8 → said ≡ Memory
 memory_is_eight Done e = absurd (omega arith)
+memory_is_eight Differs e = absurd (omega arith)
 memory_is_eight Words e = absurd (omega arith)
 memory_is_eight Line e = absurd (omega arith)
 memory_is_eight Source e = absurd (omega arith)
@@ -167,6 +147,7 @@ memory_is_eight Sink e = absurd (omega arith)
 memory_is_eight Disk e = absurd (omega arith)
 memory_is_eight Foreign e = absurd (omega arith)
 memory_is_eight Memory e = refl
+memory_is_eight Dirty e = absurd (omega arith)
 
 -- status 8 is that of want of memory alone
 pub said_memory : (old new : Option (List ℕ)) (Failed : Type 0) (said : Status) (text : List ℕ) (status : ℕ) → Finishes old new Failed said text status → status ≡ 8 → said ≡ Memory

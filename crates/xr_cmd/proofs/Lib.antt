@@ -1,9 +1,10 @@
 pub mod AnswerLemmas
 pub mod CommandLineLemmas
-pub mod FreshLemmas
+pub mod ExactAnswerLemmas
+pub mod FailureLemmas
+pub mod ImageTextLemmas
 pub mod LineLemmas
-pub mod ListTextLemmas
-pub mod LogTextLemmas
+pub mod LogItemLemmas
 pub mod MkfsCrashLemmas
 pub mod MkfsLemmas
 pub mod NumberLemmas

@@ -5,7 +5,7 @@ use Rattle.std.specs.Fmt.{decimal}
 use Rattle.std.specs.Int.{IsInRange}
 use Rattle.std.specs.Str.Parse.{digits_value, ParsesUnsigned}
 use Rattle.xr_cmd.specs.LineParts.{IsNumberBefore}
-use Rattle.xr_cmd.specs.Text.{words_of, AreSmall, IsNumber, AreNumbers, spaced}
+use Rattle.xr_text.specs.Text.{words_of, AreSmall, IsNumber, AreNumbers, spaced}
 use Rattle.std.proofs.lemmas.Bool.{cases_lt}
 use Rattle.std.specs.Str.{IsAscii}
 use Rattle.std.proofs.lemmas.Str.{IsAscii-append}

@@ -15,7 +15,7 @@ use Rattle.xr_base.specs.declared.address.FileNo.{FileNo}
 use Rattle.xr_maps.specs.declared.steps.Step.{Step}
 use Rattle.xr_maps.specs.declared.steps.Step.TheVariants.{Remap, Punch, Exchange}
 use Rattle.xr_maps.specs.Steps.{Fits}
-use Rattle.xr_cmd.specs.Text.{AreSmall, AreNumbers, spaced}
+use Rattle.xr_text.specs.Text.{AreSmall, AreNumbers, spaced}
 use Rattle.xr_cmd.specs.LineParts.{IsStepAfter}
 use Rattle.xr_cmd.specs.Script.{step_word, numbers_of, LineGives, IsPassedOver, text_of_step, AreStepsOfLines, none, passed, given}
 use Rattle.xr_cmd.proofs.NumberLemmas.{AreNumbers-same, IsAscii-spaced, first_space}

@@ -2,28 +2,26 @@
 use Rattle.std.specs.Prelude.{◌≡◌, ◌⊎◌, ℕ, List, Option}
 use Rattle.xr_disk.specs.Disk.{DiskView, IsAtRest}
 use Rattle.xr_headers.specs.FreshImage.{fresh_image}
-use Rattle.xr_maps.specs.FileMaps.{no_maps}
-use Rattle.xr_commit.specs.declared.fault.ScanFault.{ScanFault}
-use Rattle.xr_commit.specs.declared.fault.ScanFault.TheVariants as scan
 use Rattle.xr_cmd.specs.declared.failure.Failure.{Failure}
-use Rattle.xr_cmd.specs.declared.failure.Failure.TheVariants.{BadLine, SourceFailed, DiskFailed, Image, NoMemory}
+use Rattle.xr_cmd.specs.declared.failure.Failure.TheVariants as failed
 use Rattle.xr_cmd.specs.declared.program.Status.{Status}
-use Rattle.xr_cmd.specs.declared.program.Status.TheVariants.{Done, Words, Line, Source, Sink, Disk, Foreign, Memory}
+use Rattle.xr_cmd.specs.declared.program.Status.TheVariants.{Differs, Dirty, Disk, Done, Foreign, Line, Memory, Sink, Source, Words}
 use Rattle.xr_cmd.specs.declared.program.TheConstants.{FIRST_CYCLE}
 use Rattle.xr_cmd.specs.declared.command_line.Command.{Command}
-use Rattle.xr_cmd.specs.declared.command_line.Command.TheVariants.{Expect, Mkfs, Show, ShowLog}
-use Rattle.xr_cmd.specs.Expect.{Expects, IsTextOfPart}
-use Rattle.xr_cmd.specs.Failures.{WasLeft, HasFailure}
+use Rattle.xr_cmd.specs.declared.command_line.Command.TheVariants.{Check, Expect, Mkfs, Show, ShowLog}
+use Rattle.xr_cmd.specs.Expect.{Expects}
+use Rattle.xr_cmd.specs.Failures.{HasFailure, WasLeft}
+use Rattle.xr_cmd.specs.ImageText.{CallsSound, ShowsPart}
 use Rattle.xr_cmd.specs.ShowLog.{ShowsLog}
-use Rattle.xr_cmd.specs.Fresh.{IsFreshImage}
 use Rattle.xr_disk.specs.Seen.{WasSeen}
-use Rattle.xr_cmd.specs.RecordText.{words_text, bad_line_text, source_text, disk_text, foreign_text, memory_text, made_text}
+use Rattle.xr_cmd.specs.AnswerText.{bad_line_text, differs_text, dirty_text, disk_text, foreign_text, made_text, memory_text, number_of_rule, source_text, words_text}
 use Rattle.xr_cmd.specs.Streams.{PutsAll, PutsSomeFront}
 use Rattle.xr_cmd.specs.CommandLine.{IsCommand, IsNoCommand}
 
 -- the number of each status
 abbrev pub code_of : Status → ℕ
 code_of Done = 0
+code_of Differs = 1
 code_of Words = 2
 code_of Line = 3
 code_of Source = 4
@@ -31,6 +29,7 @@ code_of Sink = 5
 code_of Disk = 6
 code_of Foreign = 7
 code_of Memory = 8
+code_of Dirty = 10
 
 -- the script was left, and its records have this text
 pub record ExpectsOf (left : Option (List ℕ)) (text : List ℕ) : Type 0 where
@@ -42,39 +41,23 @@ pub record ExpectsOf (left : Option (List ℕ)) (text : List ℕ) : Type 0 where
 abbrev pub DoneWith : Option (List ℕ) → DiskView → DiskView → Command → List ℕ → Type 0
 DoneWith left old new Expect text = ExpectsOf left text
 DoneWith left old new (Mkfs uuid) text = WasSeen old.seen (λ _. IsAtRest (fresh_image uuid FIRST_CYCLE) new) × (text ≡ made_text uuid)
-DoneWith left old new (Show part) text = WasSeen old.seen IsFreshImage × IsTextOfPart part no_maps text
+DoneWith left old new Check text = CallsSound old.seen text
+DoneWith left old new (Show part) text = ShowsPart old.seen part text
 DoneWith left old new ShowLog text = ShowsLog old.seen text
 
--- the line that names a block and the number of a rule, or the one for want of memory
-abbrev pub NamesForeign : ℕ → ℕ → Status → List ℕ → Type 0
-NamesForeign block rule Foreign text = text ≡ foreign_text block rule
-NamesForeign block rule Memory text = text ≡ memory_text
-NamesForeign block rule said text = ⊥
-
--- the answer to an image that was refused by one of the rules, each with its number, or that wasn't read
-abbrev pub RefusesScan : ScanFault → Status → List ℕ → Type 0
-RefusesScan (scan.Magic block) said text = NamesForeign block 3 said text
-RefusesScan (scan.Version block) said text = NamesForeign block 4 said text
-RefusesScan (scan.Length block) said text = NamesForeign block 5 said text
-RefusesScan (scan.Checksum block) said text = NamesForeign block 6 said text
-RefusesScan (scan.Place block) said text = NamesForeign block 7 said text
-RefusesScan (scan.Operation block) said text = NamesForeign block 8 said text
-RefusesScan (scan.ItemType block) said text = NamesForeign block 9 said text
-RefusesScan (scan.Size block) said text = NamesForeign block 10 said text
-RefusesScan (scan.Field block) said text = NamesForeign block 11 said text
-RefusesScan (scan.Header block) said text = NamesForeign block 12 said text
-RefusesScan (scan.Debt block) said text = NamesForeign block 23 said text
-RefusesScan (scan.DiskFault faults) said text = (said ≡ Disk) × (text ≡ disk_text)
-RefusesScan scan.NoMemory said text = (said ≡ Memory) × (text ≡ memory_text)
-
--- the answer to a failure: its own line, or the one for want of memory, which a line with a number may meet too
+-- the answer to a failure: its own line, or the one for want of memory, which a line with numbers may meet too
 abbrev pub Refuses : Failure → Status → List ℕ → Type 0
-Refuses (BadLine number) Line text = text ≡ bad_line_text number
-Refuses (BadLine number) Memory text = text ≡ memory_text
-Refuses SourceFailed Source text = text ≡ source_text
-Refuses DiskFailed Disk text = text ≡ disk_text
-Refuses (Image fault) said text = RefusesScan fault said text
-Refuses NoMemory Memory text = text ≡ memory_text
+Refuses (failed.BadLine number) Line text = text ≡ bad_line_text number
+Refuses (failed.BadLine number) Memory text = text ≡ memory_text
+Refuses failed.SourceFailed Source text = text ≡ source_text
+Refuses failed.DiskFailed Disk text = text ≡ disk_text
+Refuses (failed.Differs name group key) Differs text = text ≡ differs_text name group key
+Refuses (failed.Differs _ _ _) Memory text = text ≡ memory_text
+Refuses (failed.Dirty lsn) Dirty text = text ≡ dirty_text lsn
+Refuses (failed.Dirty lsn) Memory text = text ≡ memory_text
+Refuses (failed.Foreign block rule) Foreign text = text ≡ foreign_text block (number_of_rule rule)
+Refuses (failed.Foreign block rule) Memory text = text ≡ memory_text
+Refuses failed.NoMemory Memory text = text ≡ memory_text
 Refuses _ _ text = ⊥
 
 -- a command had a failure, which this answers

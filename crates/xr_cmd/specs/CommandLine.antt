@@ -3,9 +3,9 @@ use Rattle.std.specs.Prelude.{◌≡◌, ℕ, List, [], ◌∷◌, map, codes, S
 use Rattle.std.specs.Borrow.{Bor}
 use Rattle.uuid.specs.Text.{parsed}
 use Rattle.xr_cmd.specs.declared.command_line.Command.{Command}
-use Rattle.xr_cmd.specs.declared.command_line.Command.TheVariants.{Expect, Mkfs, Show, ShowLog}
+use Rattle.xr_cmd.specs.declared.command_line.Command.TheVariants.{Check, Expect, Mkfs, Show, ShowLog}
 use Rattle.xr_cmd.specs.declared.command_line.Part.{Part}
-use Rattle.xr_cmd.specs.declared.command_line.Part.TheVariants.{Files, Free}
+use Rattle.xr_cmd.specs.declared.command_line.Part.TheVariants.{Files, Free, Owners, Shared}
 
 -- the bytes of each word
 abbrev pub texts_of : List (Bor (List ℕ)) → List (List ℕ)
@@ -24,6 +24,8 @@ IsImage (byte ∷ bytes) = ¬ (byte ≡ 45)
 -- the word for a part of an image
 abbrev pub name_of : Part → List ℕ
 name_of Files = codes "files"
+name_of Owners = codes "owners"
+name_of Shared = codes "shared"
 name_of Free = codes "free"
 
 -- the words after `mkfs` are an image and a text of the identifier, and those after `show` an image and the part's name,
@@ -50,6 +52,7 @@ IsShowOf image word _ = ⊥
 abbrev pub IsCommand : List (List ℕ) → Command → Type 0
 IsCommand words Expect = words ≡ codes "expect" ∷ []
 IsCommand words (Mkfs uuid) = (image : List ℕ) × (text : List ℕ) × IsMkfs image text uuid × (words ≡ codes "mkfs" ∷ image ∷ text ∷ [])
+IsCommand words Check = (image : List ℕ) × IsImage image × (words ≡ codes "check" ∷ image ∷ [])
 IsCommand words (Show part) = (image : List ℕ) × (name : List ℕ) × IsShow image name part × (words ≡ codes "show" ∷ image ∷ name ∷ [])
 IsCommand words ShowLog = (image : List ℕ) × (name : List ℕ) × IsShowLog image name × (words ≡ codes "show" ∷ image ∷ name ∷ [])
 
@@ -65,23 +68,27 @@ AsksOnly words P = (command : Command) → IsCommand words command → P command
 abbrev pub ReadsNoScript : Command → Type 0
 ReadsNoScript Expect = ⊥
 ReadsNoScript (Mkfs uuid) = Unit {0}
+ReadsNoScript Check = Unit {0}
 ReadsNoScript (Show part) = Unit {0}
 ReadsNoScript ShowLog = Unit {0}
 
 abbrev pub UsesNoDisk : Command → Type 0
 UsesNoDisk Expect = Unit {0}
 UsesNoDisk (Mkfs uuid) = ⊥
+UsesNoDisk Check = ⊥
 UsesNoDisk (Show part) = ⊥
 UsesNoDisk ShowLog = ⊥
 
 abbrev pub ReadsDisk : Command → Type 0
 ReadsDisk Expect = ⊥
 ReadsDisk (Mkfs uuid) = ⊥
+ReadsDisk Check = Unit {0}
 ReadsDisk (Show part) = Unit {0}
 ReadsDisk ShowLog = Unit {0}
 
 abbrev pub FormatsDisk : Command → Type 0
 FormatsDisk Expect = ⊥
 FormatsDisk (Mkfs uuid) = Unit {0}
+FormatsDisk Check = ⊥
 FormatsDisk (Show part) = ⊥
 FormatsDisk ShowLog = ⊥

@@ -2,7 +2,7 @@
 use Rattle.std.specs.Prelude.{◌≡◌, ℕ, ◌<◌, List, ◌∷◌, ◌^◌, ◌++◌}
 use Rattle.std.specs.Fmt.{decimal}
 use Rattle.xr_maps.specs.declared.steps.Step.{Step}
-use Rattle.xr_cmd.specs.Text.{AreNumbers}
+use Rattle.xr_text.specs.Text.{AreNumbers}
 use Rattle.xr_cmd.specs.Script.{step_word, numbers_of}
 
 -- the words after a line's first word, as a step of the kind that the first word says

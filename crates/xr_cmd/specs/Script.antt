@@ -8,7 +8,7 @@ use Rattle.xr_maps.specs.Steps.{Fits}
 use Rattle.xr_cmd.specs.declared.script.ScriptFault.{ScriptFault}
 use Rattle.xr_cmd.specs.declared.script.ScriptFault.TheVariants.{Line, NoMemory}
 use Rattle.xr_cmd.specs.declared.script.TheConstants.{MAX_LINES, MAX_BYTES}
-use Rattle.xr_cmd.specs.Text.{words_of}
+use Rattle.xr_text.specs.Text.{words_of}
 
 -- the word that begins the line of a step, and the numbers after it
 abbrev pub step_word : Step → List ℕ

@@ -9,7 +9,7 @@ use Rattle.xr_commit.specs.LogRecords.{log_of}
 use Rattle.xr_commit.specs.LoggedItems.{AreItemsOfEach}
 use Rattle.xr_commit.specs.Pending.{pending}
 use Rattle.xr_disk.specs.Seen.{WasSeen}
-use Rattle.xr_cmd.specs.LogText.{log_text}
+use Rattle.xr_text.specs.LogText.{log_text}
 
 -- the items of entries, one entry after another
 abbrev pub all_items : List (List Item) → List Item

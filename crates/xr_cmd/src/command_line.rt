@@ -12,6 +12,10 @@ use uuid::Uuid;
 pub enum Part {
     /// The extents of all files.
     Files,
+    /// Who owns which blocks.
+    Owners,
+    /// The blocks with two owners or more, and those that are staged.
+    Shared,
     /// The runs of free blocks.
     Free,
 }
@@ -23,6 +27,8 @@ pub enum Command {
     Expect,
     /// Makes a fresh image with this identifier.
     Mkfs { uuid: Uuid },
+    /// Says whether the trees of an image hold what its files map.
+    Check,
     /// Prints a part of an image.
     Show { part: Part },
     /// Prints the live stream of an image's log.
@@ -49,6 +55,8 @@ fn part_of(word: &str) -> Option<Part>
 {
     match word {
         "files" => Some(Part::Files),
+        "owners" => Some(Part::Owners),
+        "shared" => Some(Part::Shared),
         "free" => Some(Part::Free),
         _ => None,
     }
@@ -95,6 +103,17 @@ fn command_of_three(kind: &str, image: &str, last: &str) -> Option<Command>
     }
 }
 
+/// The command of two words, if they are those of one.
+fn command_of_two(kind: &str, image: &str) -> Option<Command>
+    ensures { MatchOption result (IsNoCommand (kind.now ∷ image.now ∷ [])) (IsCommand (kind.now ∷ image.now ∷ [])) }
+{
+    if kind == "check" && is_image(image) {
+        Some(Command::Check)
+    } else {
+        None
+    }
+}
+
 /// The command of one word, if it is that of one.
 fn command_of_one(word: &str) -> Option<Command>
     ensures { MatchOption result (IsNoCommand (word.now ∷ [])) (IsCommand (word.now ∷ [])) }
@@ -111,6 +130,7 @@ pub fn command_of(words: &[&str]) -> Option<Command>
 {
     match words {
         [word] => command_of_one(word),
+        [kind, image] => command_of_two(kind, image),
         [kind, image, last] => command_of_three(kind, image, last),
         _ => None,
     }

@@ -1,13 +1,16 @@
 //! Why a command has nothing to print but a line that says so.
 ghost use Rattle.std.specs.Prelude.{◌≡◌};
-ghost use Rattle.xr_cmd.specs.declared.failure.Failure.TheVariants.{DiskFailed, Image, NoMemory};
-ghost use Rattle.xr_cmd.specs.Failures.{failure_of_read, failure_of_script};
+ghost use Rattle.xr_check.specs.LoadRefusals.{told_of_scan};
+ghost use Rattle.xr_cmd.specs.declared.failure.Failure.TheVariants.{DiskFailed, NoMemory};
+ghost use Rattle.xr_cmd.specs.Failures.{failure_of_check, failure_of_read, failure_of_script};
 
 use crate::script::ScriptFault;
 use crate::streams::ReadFault;
 use std::alloc::AllocError;
-use xr_base::Fault;
+use xr_base::{Addr, Fault, GroupNo};
+use xr_check::{Broken, CheckFault, TreeName};
 use xr_commit::ScanFault;
+use xr_record::Lsn;
 
 /// Why there is no other text.
 #[derive(Clone, Copy, Debug, PartialEq, Eq)]
@@ -18,8 +21,22 @@ pub enum Failure {
     SourceFailed,
     /// The disk failed.
     DiskFailed,
-    /// The image isn't one of the program's, or it wasn't read.
-    Image(ScanFault),
+    /// This is the first tree of the first group whose records aren't those that are defined from what the files map, and the
+    /// start of the lesser record at the first place where the two lists differ.
+    Differs {
+        tree: TreeName,
+        group: GroupNo,
+        key: Addr,
+    },
+    /// The newest record of the log, which begins there, isn't an unmount.
+    Dirty {
+        lsn: Lsn,
+    },
+    /// A block of the image breaks a rule of the format.
+    Foreign {
+        block: u32,
+        rule: Broken,
+    },
     /// Want of memory.
     NoMemory,
 }
@@ -46,11 +63,24 @@ impl From<ScriptFault> for Failure {
     }
 }
 
+impl From<CheckFault> for Failure {
+    ghost from_gives = { λ fault failure. failure ≡ failure_of_check fault };
+
+    fn from(fault: CheckFault) -> Failure {
+        match fault {
+            CheckFault::Dirty { lsn } => Failure::Dirty { lsn },
+            CheckFault::Foreign { block, rule } => Failure::Foreign { block, rule },
+            CheckFault::DiskFault { .. } => Failure::DiskFailed,
+            CheckFault::NoMemory => Failure::NoMemory,
+        }
+    }
+}
+
 impl From<ScanFault> for Failure {
-    ghost from_gives = { λ fault failure. failure ≡ Image fault };
+    ghost from_gives = { λ fault failure. failure ≡ failure_of_check (told_of_scan fault) };
 
     fn from(fault: ScanFault) -> Failure {
-        Failure::Image(fault)
+        Failure::from(CheckFault::from(fault))
     }
 }
 

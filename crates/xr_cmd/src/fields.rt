@@ -1,7 +1,7 @@
 //! Words and numbers with one space between them, read back from how they are printed.
 ghost use Rattle.std.specs.Prelude.{ℕ, List, MatchOption};
 ghost use Rattle.xr_cmd.specs.LineParts.{IsNumberBefore};
-ghost use Rattle.xr_cmd.specs.Text.{IsNumber};
+ghost use Rattle.xr_text.specs.Text.{IsNumber};
 
 /// The number that the word prints, where it is below 2^32.
 pub fn number(word: &str) -> Option<u32>

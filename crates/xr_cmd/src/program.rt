@@ -3,37 +3,40 @@ ghost use Rattle.std.specs.Prelude.{◌≡◌, ◌+◌, ◌≤◌, ℕ, List, No
 ghost use Rattle.std.specs.Cow.{cow_str_bytes};
 ghost use Rattle.std.specs.String.{string_bytes};
 ghost use Rattle.xr_base.specs.Cause.{Rose};
-ghost use Rattle.xr_base.specs.declared.geometry.TheConstants.{BLOCKS};
+ghost use Rattle.xr_base.specs.declared.geometry.TheConstants.{FILES, GROUPS};
 ghost use Rattle.xr_disk.specs.Disk.{OnlyReads};
-ghost use Rattle.xr_cmd.specs.Answer.{code_of, DoneWith, NamesForeign, Refuses, RefusesScan, Says, Finishes, Ends};
+ghost use Rattle.xr_disk.specs.Seen.{WasSeen};
+ghost use Rattle.xr_cmd.specs.Answer.{DoneWith, Ends, Finishes, Refuses, Says, code_of};
+ghost use Rattle.xr_cmd.specs.AnswerText.{memory_text};
+ghost use Rattle.xr_cmd.specs.ExactAnswers.{HasOwnStatus};
 ghost use Rattle.xr_cmd.specs.declared.failure.Failure.TheVariants.{NoMemory};
 ghost use Rattle.xr_cmd.specs.declared.program.Status.TheVariants.{Done, Memory};
 ghost use Rattle.xr_cmd.specs.declared.script.TheConstants.{MAX_BYTES};
-ghost use Rattle.xr_cmd.specs.declared.command_line.Command.TheVariants.{Expect, Mkfs, Show};
-ghost use Rattle.xr_cmd.specs.Failures.{HasFailure, MkfsFails, ShowFails};
+ghost use Rattle.xr_cmd.specs.declared.command_line.Command.TheVariants.{Expect, Mkfs};
+ghost use Rattle.xr_cmd.specs.Failures.{HasFailure, MkfsFails};
 ghost use Rattle.xr_cmd.specs.Limits.{HasLimits};
 ghost use Rattle.xr_cmd.specs.Mkfs.{LeavesNoHalves};
-ghost use Rattle.xr_cmd.specs.RecordText.{memory_text};
 ghost use Rattle.xr_cmd.specs.Streams.{IsReadToEnd, StaysWithin};
 ghost use Rattle.xr_cmd.specs.CommandLine.{AsksOnly, FormatsDisk, IsCommand, ReadsDisk, ReadsNoScript, UsesNoDisk, texts_of};
 
-use crate::command_line::{Command, Part, command_of};
-use crate::expect::{expect, part_text};
+use crate::answer_text::{
+    DISK_LINE, MEMORY_LINE, SOURCE_LINE, WORDS_LINE, bad_line, differs_line, dirty_line,
+    foreign_line, made_line,
+};
+use crate::check::check_image;
+use crate::command_line::{Command, command_of};
+use crate::expect::expect;
 use crate::failure::Failure;
-use crate::fresh::first_foreign;
 use crate::make_fresh::mkfs;
+use crate::show::show;
 use crate::show_log::show_log;
 use crate::streams::put_all;
-use crate::text::{
-    DISK_LINE, MEMORY_LINE, SOURCE_LINE, WORDS_LINE, bad_line, foreign_line, made_line,
-};
 use std::alloc::{AllocError, Global};
 use std::borrow::CowStr;
 use std::thread::Threads;
 use uuid::Uuid;
-use xr_commit::ScanFault;
+use xr_check::{images_have_one_verdict, load_refusals_are_exact};
 use xr_disk::{Disk, Sink, Source};
-use xr_maps::Maps;
 
 /// The cycle with which the log of a new image begins.
 const FIRST_CYCLE: u32 = 1;
@@ -50,6 +53,7 @@ pub struct Ended<D> {
 #[derive(Clone, Copy)]
 pub(crate) enum Status {
     Done,
+    Differs,
     Words,
     Line,
     Source,
@@ -57,6 +61,7 @@ pub(crate) enum Status {
     Disk,
     Foreign,
     Memory,
+    Dirty,
 }
 
 impl Status {
@@ -65,6 +70,7 @@ impl Status {
     {
         match self {
             Status::Done => 0,
+            Status::Differs => 1,
             Status::Words => 2,
             Status::Line => 3,
             Status::Source => 4,
@@ -72,6 +78,7 @@ impl Status {
             Status::Disk => 6,
             Status::Foreign => 7,
             Status::Memory => 8,
+            Status::Dirty => 10,
         }
     }
 }
@@ -108,34 +115,6 @@ fn written(said: Status, line: Result<String, AllocError>) -> Answer
     }
 }
 
-/// The answer to an image with a block that isn't one of the program's, by the number of the rule that it breaks.
-fn foreign(alloc: Global, block: u32, rule: u32) -> Answer
-    ensures { NamesForeign block rule result.said (cow_str_bytes result.text) }
-{
-    written(Status::Foreign, foreign_line(alloc, block, rule))
-}
-
-/// The answer to an image that was refused, or that wasn't read.
-fn image_refusal(alloc: Global, fault: ScanFault) -> Answer
-    ensures { RefusesScan fault result.said (cow_str_bytes result.text) }
-{
-    match fault {
-        ScanFault::Magic { block } => foreign(alloc, block, 3),
-        ScanFault::Version { block } => foreign(alloc, block, 4),
-        ScanFault::Length { block } => foreign(alloc, block, 5),
-        ScanFault::Checksum { block } => foreign(alloc, block, 6),
-        ScanFault::Place { block } => foreign(alloc, block, 7),
-        ScanFault::Operation { block } => foreign(alloc, block, 8),
-        ScanFault::ItemType { block } => foreign(alloc, block, 9),
-        ScanFault::Size { block } => foreign(alloc, block, 10),
-        ScanFault::Field { block } => foreign(alloc, block, 11),
-        ScanFault::Header { block } => foreign(alloc, block, 12),
-        ScanFault::Debt { block } => foreign(alloc, block, 23),
-        ScanFault::DiskFault { .. } => fixed(Status::Disk, DISK_LINE),
-        ScanFault::NoMemory => fixed(Status::Memory, MEMORY_LINE),
-    }
-}
-
 /// The answer to a failure. A line with a number needs memory.
 fn refusal(alloc: Global, failure: Failure) -> Answer
     ensures { Refuses failure result.said (cow_str_bytes result.text) }
@@ -144,7 +123,13 @@ fn refusal(alloc: Global, failure: Failure) -> Answer
         Failure::BadLine(number) => written(Status::Line, bad_line(alloc, number)),
         Failure::SourceFailed => fixed(Status::Source, SOURCE_LINE),
         Failure::DiskFailed => fixed(Status::Disk, DISK_LINE),
-        Failure::Image(fault) => image_refusal(alloc, fault),
+        Failure::Differs { tree, group, key } => {
+            written(Status::Differs, differs_line(alloc, tree, group, key))
+        }
+        Failure::Dirty { lsn } => written(Status::Dirty, dirty_line(alloc, lsn)),
+        Failure::Foreign { block, rule } => {
+            written(Status::Foreign, foreign_line(alloc, block, rule))
+        }
         Failure::NoMemory => fixed(Status::Memory, MEMORY_LINE),
     }
 }
@@ -162,20 +147,6 @@ fn format<D: Disk>(alloc: Global, disk: &mut D, uuid: &Uuid) -> Result<String, F
     Ok(line)
 }
 
-/// The text of a part of an image, which has to be fresh until trees are read.
-fn show<D: Disk>(alloc: Global, disk: &mut D, part: Part) -> Result<String, Failure>
-    ensures done { IfOk result (λ text. DoneWith None (D.view disk.old) (D.view disk.new) (Show part) (string_bytes text)) }
-    ensures failure { IfErr result (ShowFails (D.view disk.old).seen (Rose (D.view disk.old).faults (D.view disk.new).faults)) }
-    ensures reads { OnlyReads (D.view disk.old) (D.view disk.new) }
-    ensures clock { (D.view disk.new).moment ≤ (D.view disk.old).moment + BLOCKS }
-    ensures count { (D.view disk.old).faults ≤ (D.view disk.new).faults }
-{
-    match first_foreign(disk)? {
-        Some(block) => Err(Failure::Image(ScanFault::Header { block })),
-        None => Ok(part_text(alloc, &Maps::new(alloc)?, part)?),
-    }
-}
-
 /// Does what a command asks for, and gives its text.
 fn perform<D: Disk, I: Source>(
     alloc: Global,
@@ -191,7 +162,7 @@ fn perform<D: Disk, I: Source>(
     ensures unread { ReadsNoScript command.now → script.new ≡ script.old }
     ensures untouched { UsesNoDisk command.now → disk.new ≡ disk.old }
     ensures reads { ReadsDisk command.now → OnlyReads (D.view disk.old) (D.view disk.new) }
-    ensures clock { ReadsDisk command.now → (D.view disk.new).moment ≤ (D.view disk.old).moment + BLOCKS }
+    ensures clock { ReadsDisk command.now → (D.view disk.new).moment ≤ (D.view disk.old).moment + 2 + FILES + GROUPS }
     ensures alone { FormatsDisk command.now → result ≡ Err NoMemory → disk.new ≡ disk.old }
     ensures crash { (uuid : List ℕ) → command.now ≡ Mkfs uuid → LeavesNoHalves uuid FIRST_CYCLE (D.view disk.old) (D.view disk.new) }
     ensures source_count { I.faults script.old ≤ I.faults script.new }
@@ -200,6 +171,7 @@ fn perform<D: Disk, I: Source>(
     match command {
         Command::Expect => expect(alloc, script),
         Command::Mkfs { uuid } => format(alloc, disk, uuid),
+        Command::Check => check_image(alloc, disk),
         Command::Show { part } => show(alloc, disk, *part),
         Command::ShowLog => show_log(alloc, disk),
     }
@@ -218,7 +190,7 @@ fn answer_to<D: Disk, I: Source>(
     ensures unread { AsksOnly (texts_of words.now) ReadsNoScript → script.new ≡ script.old }
     ensures untouched { AsksOnly (texts_of words.now) UsesNoDisk → disk.new ≡ disk.old }
     ensures reads { AsksOnly (texts_of words.now) ReadsDisk → OnlyReads (D.view disk.old) (D.view disk.new) }
-    ensures clock { AsksOnly (texts_of words.now) ReadsDisk → (D.view disk.new).moment ≤ (D.view disk.old).moment + BLOCKS }
+    ensures clock { AsksOnly (texts_of words.now) ReadsDisk → (D.view disk.new).moment ≤ (D.view disk.old).moment + 2 + FILES + GROUPS }
     ensures alone { AsksOnly (texts_of words.now) FormatsDisk → result.said ≡ Memory → disk.new ≡ disk.old }
     ensures crash { (uuid : List ℕ) → AsksOnly (texts_of words.now) (λ command. command ≡ Mkfs uuid)
         → LeavesNoHalves uuid FIRST_CYCLE (D.view disk.old) (D.view disk.new) }
@@ -251,9 +223,9 @@ fn finish<O: Sink>(out: &mut O, answer: &Answer) -> u8
 }
 
 /// Does what the words ask for, which don't hold the program's name. All that is printed goes to `out`, in one text that
-/// the status goes with: 0 with the text of the command, 2 for words that are no command's, 3 for a bad line, 4 for a
-/// source that failed, 5 for a sink that failed, before all others, 6 for a disk that failed, 7 for an image that isn't
-/// one of the program's, and 8 for want of memory.
+/// the status goes with: 0 with the text of the command, 1 for an image whose trees don't hold what its files map, 2 for words
+/// that are no command's, 3 for a bad line, 4 for a source that failed, 5 for a sink that failed, before all others, 6 for a disk
+/// that failed, 7 for an image that isn't one of the program's, 8 for want of memory, and 10 for an image that wasn't unmounted.
 pub fn xreflink<R: Threads + Sync, D: Disk + Send, I: Source, O: Sink>(
     _rt: &R,
     alloc: Global,
@@ -264,6 +236,7 @@ pub fn xreflink<R: Threads + Sync, D: Disk + Send, I: Source, O: Sink>(
 ) -> Ended<D>
     ensures ends { Ends (texts_of words.now) (I.left script.old) (I.faults script.old) (I.faults script.new)
         (D.view disk) (D.view result.disk) (O.held out.old) (O.held out.new) (Rose (O.faults out.old) (O.faults out.new)) result.status }
+    ensures own { WasSeen (D.view disk).seen (λ image. HasOwnStatus (texts_of words.now) image result.status) }
 
     // What the source and the disk are left as.
     ensures read_to_end { IsCommand (texts_of words.now) Expect → result.status ≡ 0 → IsReadToEnd (I.left script.old) (I.left script.new) }
@@ -271,7 +244,7 @@ pub fn xreflink<R: Threads + Sync, D: Disk + Send, I: Source, O: Sink>(
     ensures unread { AsksOnly (texts_of words.now) ReadsNoScript → script.new ≡ script.old }
     ensures untouched { AsksOnly (texts_of words.now) UsesNoDisk → result.disk ≡ disk }
     ensures reads { AsksOnly (texts_of words.now) ReadsDisk → OnlyReads (D.view disk) (D.view result.disk) }
-    ensures clock { AsksOnly (texts_of words.now) ReadsDisk → (D.view result.disk).moment ≤ (D.view disk).moment + BLOCKS }
+    ensures clock { AsksOnly (texts_of words.now) ReadsDisk → (D.view result.disk).moment ≤ (D.view disk).moment + 2 + FILES + GROUPS }
     ensures alone { AsksOnly (texts_of words.now) FormatsDisk → result.status ≡ 8 → result.disk ≡ disk }
     ensures crash { (uuid : List ℕ) → AsksOnly (texts_of words.now) (λ command. command ≡ Mkfs uuid)
         → LeavesNoHalves uuid FIRST_CYCLE (D.view disk) (D.view result.disk) }
@@ -281,6 +254,9 @@ pub fn xreflink<R: Threads + Sync, D: Disk + Send, I: Source, O: Sink>(
     ensures sink_count { O.faults out.old ≤ O.faults out.new }
     ensures disk_count { (D.view disk).faults ≤ (D.view result.disk).faults }
 {
+    // These say that no other answer is so of the image.
+    images_have_one_verdict();
+    load_refusals_are_exact();
     let answer = answer_to(alloc, words, script, &mut disk);
     Ended {
         status: finish(out, &answer),

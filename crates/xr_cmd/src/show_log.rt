@@ -8,10 +8,10 @@ ghost use Rattle.xr_cmd.specs.Failures.{ShowLogFails};
 ghost use Rattle.xr_cmd.specs.ShowLog.{IsTextOfLive, ShowsLog};
 
 use crate::failure::Failure;
-use crate::log_text::{push_entries, push_heads, push_pending};
 use std::alloc::{AllocError, Global};
 use xr_commit::{Live, items_of_each, live, pending_works};
 use xr_disk::Disk;
+use xr_text::{push_entries, push_heads, push_pending};
 
 /// The text of a live stream.
 fn live_text(alloc: Global, live: &Live) -> Result<String, AllocError>

@@ -25,12 +25,15 @@ fn formats_and_shows(rt: HostRuntime) -> Result<(), Fail> {
             "made 00000000-0000-4000-8000-000000000001\n",
         ),
         (["show", "IMG", "files"], ""),
+        (["show", "IMG", "owners"], ""),
+        (["show", "IMG", "shared"], ""),
         (["show", "IMG", "free"], ALL_FREE),
         (["show", "IMG", "log"], FRESH_LOG),
     ] {
         disk = leaves(&rt, disk, &words, (0, wanted))?;
     }
-    // A byte in a block that is to hold zeros.
+    disk = leaves(&rt, disk, &["check", "IMG"], (0, "sound\n"))?;
+    // A byte of a file's core that is to be zero.
     assert_eq!(rt; disk.write(600 * 8 + 7, &[1; 512]), Ok(()));
     leaves(&rt, disk, &["show", "IMG", "free"], (7, "foreign 600 12\n"))?;
     Ok(())
@@ -48,7 +51,7 @@ fn mkfs_ends_where_the_disk_stops(rt: HostRuntime) -> Result<(), Fail> {
 }
 
 /// Words without a disk behind them, the status and what is written.
-const WORDS: [(&[&str], u8, &str); 18] = [
+const WORDS: [(&[&str], u8, &str); 25] = [
     (&["mkfs", "IMG", "123"], 2, "words\n"),
     (&["mkfs", "IMG"], 2, "words\n"),
     (&["mkfs", "", UUID], 2, "words\n"),
@@ -59,6 +62,10 @@ const WORDS: [(&[&str], u8, &str); 18] = [
     (&["show", "", "log"], 2, "words\n"),
     (&["show", "-", "free"], 2, "words\n"),
     (&["Show", "IMG", "free"], 2, "words\n"),
+    (&["check"], 2, "words\n"),
+    (&["check", ""], 2, "words\n"),
+    (&["check", "-IMG"], 2, "words\n"),
+    (&["check", "IMG", "IMG"], 2, "words\n"),
     (&["mkfs", "IMG", UUID], 6, "disk\n"),
     (
         &["mkfs", "I", "{00000000-0000-4000-8000-00000000ABCD}"],
@@ -77,6 +84,9 @@ const WORDS: [(&[&str], u8, &str); 18] = [
     ),
     (&["show", "IMG", "free"], 6, "disk\n"),
     (&["show", "IMG", "files"], 6, "disk\n"),
+    (&["show", "IMG", "owners"], 6, "disk\n"),
+    (&["show", "IMG", "shared"], 6, "disk\n"),
+    (&["check", "IMG"], 6, "disk\n"),
     (&["show", "IMG", "log"], 6, "disk\n"),
     (&["expect"], 0, ALL_FREE),
 ];

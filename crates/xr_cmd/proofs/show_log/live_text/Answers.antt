@@ -1,10 +1,10 @@
 use Rattle.std.proofs.Common.{◌∙◌, length, sym, ap}
 use Rattle.std.proofs.lemmas.List.{append_assoc}
 use Rattle.xr_commit.specs.ItemsOf.{items_in}
-use Rattle.xr_cmd.specs.LogText.{entries_text, heads_text, pending_line}
+use Rattle.xr_text.specs.LogText.{entries_text, heads_text, pending_line}
 use Rattle.xr_commit.specs.Pending.{pending}
 use Rattle.xr_cmd.specs.ShowLog.{all_items}
-use Rattle.xr_cmd.proofs.LogTextLemmas.{joined}
+use Rattle.xr_cmd.proofs.LogItemLemmas.{joined}
 use Rattle.xr_cmd.proofs.show_log.live_text.Goals as goal
 
 pub push_entries-requires : goal.push_entries-requires

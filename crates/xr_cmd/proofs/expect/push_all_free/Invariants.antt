@@ -1,9 +1,0 @@
-use Rattle.std.specs.String.{string_bytes}
-use Rattle.xr_maps.specs.Records.{AreFreeRecords}
-use Rattle.std.specs.List.{flat_map}
-use Rattle.xr_cmd.specs.Expect.{AppendsLists}
-use Rattle.xr_cmd.specs.RecordText.{free_text}
-use Rattle.xr_cmd.proofs.expect.push_all_free.Given as goal
-
-abbrev pub invariant-loop-group : goal.invariant-loop-group
-invariant-loop-group l = AppendsLists (AreFreeRecords l.maps) (flat_map free_text) l.group (string_bytes l.fn.text) (string_bytes l.text)

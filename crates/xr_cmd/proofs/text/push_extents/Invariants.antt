@@ -1,8 +1,0 @@
-use Rattle.std.proofs.Common.{◌≡◌, ◌++◌, take}
-use Rattle.std.specs.String.{string_bytes}
-use Rattle.xr_cmd.specs.RecordText.{extents_text}
-use Rattle.xr_cmd.proofs.text.push_extents.Given as goal
-
-abbrev pub invariant-loop-extent : goal.invariant-loop-extent
-invariant-loop-extent l =
-    string_bytes l.text ≡ string_bytes l.initial.text ++ extents_text l.file (take l.extent-index l.extents)

@@ -1,0 +1,3 @@
+pub mod ListTextLemmas
+pub mod LogTextLemmas
+pub mod TreeTextLemmas

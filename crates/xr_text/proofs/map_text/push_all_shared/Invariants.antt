@@ -1,0 +1,9 @@
+use Rattle.std.specs.String.{string_bytes}
+use Rattle.xr_maps.specs.Records.{AreReferenceRecords}
+use Rattle.std.specs.List.{flat_map}
+use Rattle.xr_text.specs.MapText.{AppendsLists}
+use Rattle.xr_text.specs.RecordText.{shared_text}
+use Rattle.xr_text.proofs.map_text.push_all_shared.Given as goal
+
+abbrev pub invariant-loop-group : goal.invariant-loop-group
+invariant-loop-group l = AppendsLists (AreReferenceRecords l.maps) (flat_map shared_text) l.group (string_bytes l.fn.text) (string_bytes l.text)
