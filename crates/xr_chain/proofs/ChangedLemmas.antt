@@ -1,10 +1,13 @@
 -- The changed blocks of a file or a group, one after another, and what is left where they are dropped.
-use Rattle.std.proofs.Common.{◌≡◌, ◌≢◌, ℕ, ◌+◌, ◌<◌, List, [], ◌∷◌, ◌++◌, length, take, get_or, sym, ◌∙◌, ap, subst, arith}
+use Rattle.std.proofs.Common.{◌≡◌, ◌≢◌, ℕ, ◌+◌, ◌<◌, ◌≤◌, List, [], ◌∷◌, ◌++◌, length, take, get_or, sym, ◌∙◌, ap, subst, arith}
 use Rattle.std.proofs.lemmas.List.{get_or-map, get_or-take, get_or_default, length-map, length-take, same_lists, take_all, take_more}
-use Rattle.std.proofs.lemmas.List.Elements.{All-from_get_or}
-use Rattle.std.specs.List.{AllPairs, Contains}
+use Rattle.std.proofs.lemmas.List.Elements.{All-from_get_or, All-map}
+use Rattle.std.specs.List.{All, AllPairs, Contains}
 use Rattle.std.specs.Prelude.{slice_index, slice_index_or}
+use Rattle.xr_bmap.specs.File.{first_of_file}
 use Rattle.xr_chain.specs.Events.{logged_from, trans_with}
+use Rattle.xr_chain.specs.LoggedLaws.{FilesLogChanges, GroupsLogChanges, LogsChanges}
+use Rattle.xr_group.specs.Group.{first_of_group}
 use Rattle.xr_items.specs.Transactions.{IsNotAmong, TransView, logged}
 use Rattle.xr_items.specs.declared.trans.Logged.{Logged}
 use Rattle.xr_open.specs.PoolState.{PoolState, dropped_to_kept}
@@ -66,3 +69,31 @@ dropped_back old new number uuid kept none same =
     let b = ap (λ (x : List (List ℕ)). record { number = old.number; uuid = old.uuid; kept = old.kept; blocks = x; changed = [] }) same in
     let c = ap (λ (x : List ℕ). record { number = old.number; uuid = old.uuid; kept = old.kept; blocks = old.blocks; changed = x }) (sym none) in
     n ∙ u ∙ k ∙ b ∙ c
+
+-- the changed blocks are those of what is kept that aren't what they were
+module _ (first size : ℕ) (s : PoolState) (below : All (λ (n : ℕ). n < size) s.changed)
+    (others : (n : ℕ) → ¬ (Contains s.changed n) → slice_index_or s.kept n [] ≡ slice_index_or s.blocks n []) where
+  named : (n : ℕ) → Contains s.changed n → ¬ (IsNotAmong (first + n) (all first s))
+  named n held none =
+      let entry_of : ℕ → Logged = entry first s in
+      let is = ap (λ (l : Logged). l.block) (get_or-map entry_of s.changed held.0 n (entry_of n) held.1) ∙ ap (λ (m : ℕ). first + m) held.2 in
+      none held.0 (entry_of n) (omega (arith, held.1, length-map s.changed entry_of)) is
+
+  pub logs_changes : LogsChanges first size s
+  logs_changes = record {
+    within =
+        All-map (λ (l : Logged). (first ≤ l.block) × (l.block < first + size)) (entry first s) s.changed
+        (λ k d inside. (omega arith, omega (arith, below k d inside)));
+    turns = λ n. record {
+      changed =
+          All-map (λ (l : Logged). l.block ≡ first + n → l.image ≡ slice_index_or s.blocks n []) (entry first s) s.changed
+          (λ k d inside same. ap (λ m. slice_index_or s.blocks m []) (omega (arith, same)));
+      unchanged = λ none. others n (λ held. named n held none);
+    };
+  }
+
+pub files_log_changes : FilesLogChanges
+files_log_changes f are = logs_changes (first_of_file f.number) _ f are.below are.others
+
+pub groups_log_changes : GroupsLogChanges
+groups_log_changes g are = logs_changes (first_of_group g.number) _ g are.below are.others

@@ -14,7 +14,7 @@ use Rattle.xr_bmap.specs.Slots.{IsPieceAt, piece_len, piece_slot}
 use Rattle.xr_bmap.specs.declared.piece.Piece.{Piece}
 use Rattle.xr_bmap.specs.declared.piece.Piece.TheVariants.{Hole, Mapped}
 use Rattle.xr_chain.proofs.PartLemmas.{front_good}
-use Rattle.xr_chain.specs.ExchangeParts.{AreRanges, FitsRanges, IsRunAt, IsShorter, LeavesWorks, ranges_behind, run_of_front}
+use Rattle.xr_chain.specs.ExchangeParts.{AreRanges, FitsRanges, IsRunAt, IsShorterLength, LeavesWorks, ranges_behind, run_of_front}
 use Rattle.xr_chain.specs.declared.exchange.Ranges.{Ranges}
 use Rattle.xr_items.specs.Transactions.{TransView, no_trans}
 use Rattle.xr_items.specs.declared.work.Work.{Work}
@@ -89,7 +89,7 @@ pub record IsRestOf (one two : FileState) (r rest : Ranges) (trans : TransView) 
   pub leads : (left : List Work) → LeavesWorks one two rest left → LeavesWorks one two r left
 
 -- a lookup of both ranges
-module _ (one two : FileState) (r : Ranges) (p q : Piece) (n : ℕ) (first : IsPieceAt (slot_of_file one) r.off r.len p) (second : IsPieceAt (slot_of_file two) r.other_off r.len q) (shorter : IsShorter p q n) where
+module _ (one two : FileState) (r : Ranges) (p q : Piece) (n : ℕ) (first : IsPieceAt (slot_of_file one) r.off r.len p) (second : IsPieceAt (slot_of_file two) r.other_off r.len q) (shorter : IsShorterLength p q n) where
   pub some_offset : 0 < n
   some_offset = ⊎_elim (λ (e : n ≡ piece_len p). omega (arith, e, first.some)) (λ (e : n ≡ piece_len q). omega (arith, e, second.some)) shorter.is_one
 

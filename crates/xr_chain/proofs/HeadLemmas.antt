@@ -36,6 +36,9 @@ module _ (chain : ChainView) (work : Work) (slot : ℕ) (first : IsHead chain wo
   pub of_head : (fact : Work → Type 0) → OfFirst fact chain.works → fact work
   of_head fact is = subst (λ (works : List Work). OfFirst fact works) works_are is
 
+  pub at_head : (fact : Work → Type 0) → fact work → OfFirst fact chain.works
+  at_head fact is = subst (λ (works : List Work). OfFirst fact works) (sym works_are) is
+
   pub head_need : (n : Need) → first_need chain.works ≡ n → need_of work ≡ n
   head_need n needs = ap first_need (sym works_are) ∙ needs
 

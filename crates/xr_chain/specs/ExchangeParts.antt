@@ -42,7 +42,7 @@ run_of_front (Mapped at len) n = Some (record { start = at; len = n })
 run_of_front (Hole len) n = None
 
 -- as many offsets as the shorter of two pieces has
-pub record IsShorter (first second : Piece) (n : ℕ) : Type 0 where
+pub record IsShorterLength (first second : Piece) (n : ℕ) : Type 0 where
   pub in_first : n ≤ piece_len first
   pub in_second : n ≤ piece_len second
   pub is_one : (n ≡ piece_len first) ⊎ (n ≡ piece_len second)

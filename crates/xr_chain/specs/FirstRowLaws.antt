@@ -5,7 +5,6 @@ use Rattle.xr_balance.specs.Lanes.{owners_in}
 use Rattle.xr_balance.specs.Pieces.{IsHoleOrRun}
 use Rattle.xr_balance.specs.Settled.{Committed}
 use Rattle.xr_base.specs.Address.{address_after}
-use Rattle.xr_base.specs.declared.address.Addr.{Addr}
 use Rattle.xr_base.specs.declared.address.Run.{Run}
 use Rattle.xr_chain.specs.FirstRows.{run_of_piece, works_of_step}
 use Rattle.xr_bmap.specs.declared.piece.Piece.{Piece}
@@ -15,9 +14,6 @@ use Rattle.xr_maps.specs.Holdings.{in_run}
 use Rattle.xr_maps.specs.Steps.{applied}
 use Rattle.xr_maps.specs.declared.steps.Step.{Step}
 use Rattle.xr_maps.specs.declared.steps.Step.TheVariants.{Exchange, Punch, Remap}
-
-abbrev run_at : Addr → ℕ → Run
-run_at at len = record { start = at; len = len }
 
 -- the maps have the piece where the step puts something else, or leaves a hole; a hole isn't punched
 abbrev pub IsFoundFor : Committed → Step → Piece → Type 0

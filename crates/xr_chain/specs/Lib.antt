@@ -9,6 +9,7 @@ pub mod FileWorks
 pub mod FirstRowLaws
 pub mod FirstRows
 pub mod GroupWorks
+pub mod LoggedLaws
 pub mod OwnerRecords
 pub mod Readiness
 pub mod ReadinessLaws

@@ -5,7 +5,7 @@ ghost use Rattle.xr_base.specs.Address.{IsGoodRun};
 ghost use Rattle.xr_base.specs.declared.geometry.TheConstants.{FILES, FIRST_INODE, OFFSETS};
 ghost use Rattle.xr_bmap.specs.Slots.{piece_len, piece_slot};
 ghost use Rattle.xr_chain.specs.Events.{trans_with};
-ghost use Rattle.xr_chain.specs.ExchangeParts.{AreRanges, FitsRanges, IsRunAt, IsShorter, LeavesWorks, ranges_behind, run_of_front, swap_of};
+ghost use Rattle.xr_chain.specs.ExchangeParts.{AreRanges, FitsRanges, IsRunAt, IsShorterLength, LeavesWorks, ranges_behind, run_of_front, swap_of};
 ghost use Rattle.xr_items.specs.Transactions.{no_trans};
 ghost use Rattle.xr_items.specs.Valid.{IsWork, SuitsOwner};
 ghost use Rattle.xr_items.specs.declared.layout.TheConstants.{TRANS_WORKS};
@@ -80,7 +80,7 @@ fn piece_offsets(piece: Piece) -> u32
 
 /// How many offsets both pieces have.
 fn shorter(first: Piece, second: Piece) -> u32
-    ensures { IsShorter first second result }
+    ensures { IsShorterLength first second result }
 {
     piece_offsets(first).min(piece_offsets(second))
 }

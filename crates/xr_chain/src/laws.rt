@@ -1,7 +1,8 @@
 //! What is so of chains and of what is committed, by the words alone.
 ghost use Rattle.xr_chain.specs.ChainRoom.{ChainsHaveRoom};
-ghost use Rattle.xr_chain.specs.CommittedLaws.{CommittedIsOfBlocks, LookupsAreFound};
+ghost use Rattle.xr_chain.specs.CommittedLaws.{CommittedIsOfBlocks, ListedFilesAreMapped, ListedGroupsTell, LookupsAreFound, PutIsListed};
 ghost use Rattle.xr_chain.specs.FirstRowLaws.{FirstRowsAreGiven};
+ghost use Rattle.xr_chain.specs.LoggedLaws.{FilesLogChanges, GroupsLogChanges};
 ghost use Rattle.xr_chain.specs.OwnerRecords.{OwnerRecordsAreFew};
 ghost use Rattle.xr_chain.specs.ReadinessLaws.{FilesTellReadiness, GroupsTellReadiness};
 
@@ -23,11 +24,20 @@ pub fn readiness_is_told()
     ensures groups { GroupsTellReadiness }
 {}
 
-/// What is committed is a function of the blocks of files and groups, whatever they go back to, and a lookup that tells of a whole
-/// range tells what is committed there.
+/// What is committed is a function of the blocks of files and groups, whatever they go back to. A listed file tells what is committed
+/// at each offset, and a lookup in it that tells of a whole range does; and a listed group tells it of each block.
 pub fn committed_is_told()
     ensures blocks { CommittedIsOfBlocks }
+    ensures files { ListedFilesAreMapped }
     ensures lookups { LookupsAreFound }
+    ensures groups { ListedGroupsTell }
+    ensures put { PutIsListed }
+{}
+
+/// A transaction of the changed blocks of a file or a group makes of what was kept what is there now.
+pub fn changes_are_logged()
+    ensures files { FilesLogChanges }
+    ensures groups { GroupsLogChanges }
 {}
 
 /// A group has no more records of owners than what is committed has pairs in it.

@@ -24,7 +24,7 @@ mod works;
 
 pub use chain::{CHAIN_WORKS, Chain, Need};
 pub use laws::{
-    chains_have_room, committed_is_told, first_rows_are_given, owner_records_are_few,
-    readiness_is_told,
+    chains_have_room, changes_are_logged, committed_is_told, first_rows_are_given,
+    owner_records_are_few, readiness_is_told,
 };
 pub use staging::Staged;

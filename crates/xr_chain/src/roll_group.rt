@@ -2,6 +2,7 @@
 ghost use Rattle.std.specs.Prelude.{◌≡◌, ◌≤◌, [], length};
 ghost use Rattle.xr_chain.specs.ChainView.{HasRollRoom, IsPlaced, OfFirst, first_need, group_at};
 ghost use Rattle.xr_chain.specs.Events.{RollsGroup, RollsWith, logged_group};
+ghost use Rattle.xr_chain.specs.GroupWorks.{ChangesItsPart, DoesGroupWork};
 ghost use Rattle.xr_chain.specs.Readiness.{IsGroupReady};
 ghost use Rattle.xr_group.specs.Sets.{IsPaired};
 ghost use Rattle.xr_items.specs.Transactions.{no_trans};
@@ -28,6 +29,8 @@ impl Chain {
         requires unchanged { group.old.changed ≡ [] }
         requires empty { trans.old ≡ no_trans }
         ensures rolled { RollsWith (RollsGroup group.old group.new) (logged_group group.new) self result trans.new }
+        ensures does { OfFirst (λ work. DoesGroupWork group.old group.new work trans.new.works) self.works }
+        ensures change { OfFirst (ChangesItsPart group.old group.new) self.works }
         ensures paired { IsPaired group.new }
         ensures kept { dropped_to_kept group.new ≡ group.old }
         ensures few { length trans.new.blocks ≤ TRANS_BLOCKS }

@@ -55,6 +55,7 @@ impl Chain {
         requires unchanged { file.old.changed ≡ [] }
         requires empty { trans.old ≡ no_trans }
         ensures rolled { RollsWith (RollsFile file.old file.new) (logged_file file.new) self result trans.new }
+        ensures change { ChangesFile file.old file.new }
         ensures kept { dropped_to_kept file.new ≡ file.old }
         ensures few { length trans.new.blocks ≤ TRANS_BLOCKS }
     {

@@ -3,7 +3,9 @@ ghost use Rattle.std.specs.Prelude.{◌≡◌, ℕ, ◌≤◌, ◌↔◌, false,
 ghost use Rattle.xr_balance.specs.Rows.{works_of_release, works_of_staging};
 ghost use Rattle.xr_base.specs.Address.{IsGoodRun};
 ghost use Rattle.xr_chain.specs.Events.{BeginsWith, StagesIn, logged_group};
+ghost use Rattle.xr_group.specs.Group.{ChangesGroup};
 ghost use Rattle.xr_group.specs.Sets.{IsFirstFree, IsPaired, has_free};
+ghost use Rattle.xr_group.specs.Trees.{free_part};
 ghost use Rattle.xr_items.specs.Transactions.{no_trans};
 ghost use Rattle.xr_items.specs.declared.layout.TheConstants.{TRANS_BLOCKS};
 ghost use Rattle.xr_open.specs.PoolState.{dropped_to_kept};
@@ -36,6 +38,7 @@ impl Chain {
         ensures run { IfSome result (λ staged. IsFirstFree group.old need staged.run) }
         ensures event { IfSome result (λ staged. StagesIn group.old group.new staged.run) }
         ensures begins { IfSome result (λ staged. BeginsWith (logged_group group.new) (works_of_staging staged.run) staged.chain trans.new) }
+        ensures change { ChangesGroup free_part 22 group.old group.new }
         ensures paired { IsPaired group.new }
         ensures kept { dropped_to_kept group.new ≡ group.old }
         ensures few { length trans.new.blocks ≤ TRANS_BLOCKS }

@@ -21,7 +21,7 @@ use crate::fault::CheckFault;
 use crate::judging::judge;
 use crate::loaded::Loaded;
 use crate::verdict::Verdict;
-use std::alloc::Global;
+use std::alloc::{AllocError, Global};
 use uuid::Uuid;
 use xr_base::geometry::{
     BLOCK_BYTES, BLOCK_SECTORS, FILE_BLOCKS, FILES, FIRST_DATA_BLOCK, FIRST_FILE_BLOCK,
@@ -63,6 +63,19 @@ fn load_log<D: Disk>(alloc: Global, disk: &mut D) -> Result<Uuid, CheckFault>
     Ok(uuid)
 }
 
+/// Room for so many blocks. It is filled a block at a time, which takes less than a byte at a time.
+fn room_for(alloc: Global, count: u32) -> Result<Vec<u8>, AllocError>
+    requires { count ≤ BLOCKS }
+    ensures { IfOk result (λ room. vec_len room ≡ BLOCK_BYTES * count) }
+{
+    let zeros = [0; BLOCK_BYTES];
+    let mut room = Vec::with_capacity(alloc, BLOCK_BYTES * count as usize)?;
+    for _ in 0..count {
+        room.extend_from_slice(&zeros)?;
+    }
+    Ok(room)
+}
+
 /// Reads so many blocks, from one on.
 fn read_blocks<D: Disk>(
     alloc: Global,
@@ -79,7 +92,7 @@ fn read_blocks<D: Disk>(
     ensures reads { ReadsAtMost 1 (D.view disk.old) (D.view disk.new) }
     ensures cause { IfErr result (HasRisen (D.view disk.old).faults (D.view disk.new).faults) }
 {
-    let mut blocks = vec![in alloc; 0; BLOCK_BYTES * count as usize]?;
+    let mut blocks = room_for(alloc, count)?;
     match disk.read(first * BLOCK_SECTORS, &mut blocks) {
         Ok(()) => Ok(blocks),
         Err(Fault) => Err(CheckFault::DiskFault {

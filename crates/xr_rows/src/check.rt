@@ -1,9 +1,7 @@
 //! Rows of `check` and `show`: images with files that share blocks, and with one leaf that is wrong.
-ghost use Rattle.std.specs.Prelude.{◌≡◌, ◌*◌, length};
-ghost use Rattle.xr_base.specs.declared.geometry.TheConstants.{SECTOR_BYTES};
-ghost use Rattle.xr_record.specs.Record.{IsGoodHead};
 
 use crate::image::UUID;
+use crate::log::sealed;
 use crate::tests::{blank, gives, leaves, no_disk, script};
 use std::alloc::{AllocError, Global};
 use std::process::Abort;
@@ -18,7 +16,7 @@ use xr_base::layout::{
 use xr_cmd::mkfs;
 use xr_disk::{Disk, MemDisk};
 use xr_headers::fresh_block;
-use xr_record::{Head, Lsn, seal};
+use xr_record::{Head, Lsn};
 
 /// What a leaf of a tree holds: the words of its records, each of four bytes.
 #[derive(Clone, Copy)]
@@ -209,10 +207,10 @@ fn write_leaf(rt: &impl Abort, disk: &mut MemDisk, uuid: &Uuid, leaf: &Leaf) {
     let (first, crc) = places(leaf.block);
     put(rt, &mut bytes, BB_NUMRECS, &leaf.records.to_be_bytes());
     for (n, word) in leaf.words.iter().enumerate() {
-        assert!(rt; n < 100);
+        assert!(rt; n < 100 && first < 100);
         put(rt, &mut bytes, first + 4 * n, &word.to_be_bytes());
     }
-    assert!(rt; crc + 4 <= bytes.len());
+    assert!(rt; crc < 100);
     let sum = crc32c_without(&bytes, crc);
     put(rt, &mut bytes, crc, &sum.to_le_bytes());
     assert!(rt; disk.write(leaf.block * BLOCK_SECTORS, &bytes).is_ok());
@@ -343,15 +341,6 @@ fn foreign_blocks_are_named(rt: HostRuntime) -> Result<(), Fail> {
     Ok(())
 }
 
-/// Seals a record whose body fills a sector.
-fn seal_sector(head: &Head, sectors: &mut [u8])
-    requires good { IsGoodHead head.now }
-    requires len { head.now.len ≡ SECTOR_BYTES }
-    requires room { length sectors.old ≡ 2 * SECTOR_BYTES }
-{
-    seal(head, sectors);
-}
-
 /// A newer record that is no unmount goes before all that is wrong behind it.
 #[test]
 fn an_image_in_use_is_dirty(rt: HostRuntime) -> Result<(), Fail> {
@@ -369,9 +358,9 @@ fn an_image_in_use_is_dirty(rt: HostRuntime) -> Result<(), Fail> {
         len: 512,
         uuid,
     };
-    let mut sectors = [7; 1024];
-    seal_sector(&head, &mut sectors);
-    assert!(rt; disk.write(66, &sectors).is_ok());
+    let record = sealed(rt.alloc(), &head, &[7; 512])?;
+    assert!(rt; record.len() == 1024);
+    assert!(rt; disk.write(66, &record).is_ok());
     all_answer(&rt, disk, (10, "dirty 1:2\n"))?;
     Ok(())
 }

@@ -124,7 +124,7 @@ fn printed(alloc: Global) -> Result<String, AllocError> {
 }
 
 /// The sectors of a record with this body.
-fn sealed(alloc: Global, head: &Head, body: &[u8]) -> Result<Vec<u8>, AllocError>
+pub(crate) fn sealed(alloc: Global, head: &Head, body: &[u8]) -> Result<Vec<u8>, AllocError>
     requires good { IsGoodHead head.now }
     requires len { length body.now ≡ head.now.len }
 {

@@ -1,5 +1,6 @@
 -- Printing lists one after another.
-use Rattle.std.proofs.Common.{◌≡◌, ℕ, ◌+◌, ◌<◌, ◌≤◌, List, [], ◌∷◌, ◌++◌, length, get_or, sym, ap, subst, ◌∙◌, refl, arith, ⊎_elim}
+use Rattle.std.proofs.Common.{◌≡◌, ℕ, ◌+◌, ◌<◌, ◌≤◌, List, [], ◌∷◌, ◌++◌, length, get_or}
+use Rattle.std.proofs.Common.{sym, ap, subst, ◌∙◌, refl, arith, ⊎_elim}
 use Rattle.std.specs.List.{flat_map}
 use Rattle.std.proofs.lemmas.List.{append-nil, append_assoc, length_push, get_or_append_left, get_or_push, flat_map_more}
 use Rattle.std.proofs.lemmas.Bool.{cases_lt}
@@ -27,7 +28,8 @@ module _ {X : Type 0} (P : ℕ → List X → Type 0) where
   }
 
   -- one more list is printed
-  pub appends_more : (print : List (List X) → List ℕ) (n : ℕ) (old now new : List ℕ) (x : List X) (piece : List ℕ) → (so_far : AppendsLists P print n old now) → P n x
+  pub appends_more : (print : List (List X) → List ℕ) (n : ℕ) (old now new : List ℕ) (x : List X) (piece : List ℕ)
+      → (so_far : AppendsLists P print n old now) → P n x
       → print (so_far.lists ++ x ∷ []) ≡ print so_far.lists ++ piece → new ≡ now ++ piece → AppendsLists P print (n + 1) old new
   appends_more print n old now new x piece so_far is more e = record {
     lists = so_far.lists ++ x ∷ [];

@@ -1,5 +1,6 @@
 -- A walk over the records of a tree prints each of them.
-use Rattle.std.proofs.Common.{◌≡◌, ℕ, ◌+◌, ◌-◌, ◌<◌, List, [], ◌∷◌, ◌++◌, length, get_or, take, Option, Some, None, refl, sym, ap, ◌∙◌, arith}
+use Rattle.std.proofs.Common.{◌≡◌, ℕ, ◌+◌, ◌-◌, ◌<◌, List, [], ◌∷◌, ◌++◌, length, get_or, take, Option, Some, None}
+use Rattle.std.proofs.Common.{refl, sym, ap, ◌∙◌, arith}
 use Rattle.std.proofs.lemmas.List.{append-nil, flat_map_more, length-append, take_all, take_more}
 use Rattle.std.proofs.lemmas.List.Folds.{length-flat_map-take}
 use Rattle.std.specs.List.{Contains, flat_map}
@@ -16,7 +17,8 @@ pub record HasPrinted {X : Type 0} (line : X → List ℕ) (tree : List X) (old 
   pub printed : now ≡ old ++ flat_map line (take n tree)
 
 module _ {X : Type 0} (records : GroupState → List X) (Before : X → X → Type 0) (start : X → Addr) (order : IsTreeOrder records Before start)
-    (g : GroupState) (are : AreGroups g) (line : X → List ℕ) (old now : List ℕ) (last : Option X) (so_far : HasPrinted line (records g) old now last) where
+    (g : GroupState) (are : AreGroups g) (line : X → List ℕ) (old now : List ℕ) (last : Option X)
+    (so_far : HasPrinted line (records g) old now last) where
   abbrev tree : List X
   tree = records g
 

@@ -13,25 +13,27 @@ use Rattle.xr_text.specs.Text.{line_of}
 abbrev pub extent_line : ℕ → Extent → List ℕ
 extent_line file e = line_of (codes "file") (decimal file ∷ decimal e.off ∷ decimal e.len ∷ decimal e.at.0 ∷ [])
 
--- a reverse mapping record: its run with the number of the file that owns it, and the offset there
+-- a reverse mapping record of a file: its run, the number of the file, and the offset there
 abbrev pub owned_line : Rev → List ℕ
 owned_line r = line_of (codes "owner") (decimal r.run.start.0 ∷ decimal r.run.len ∷ decimal (r.owner - FIRST_INODE) ∷ decimal r.off ∷ [])
 
--- or that no file owns the run yet
+-- one of staged blocks, which no file owns yet
 abbrev pub staged_owner_line : Rev → List ℕ
 staged_owner_line r = line_of (codes "owner") (decimal r.run.start.0 ∷ decimal r.run.len ∷ codes "staging" ∷ [])
 
+-- a reverse mapping record
 abbrev pub owner_line : Rev → List ℕ
 owner_line r = if r.owner == OWN_COW then staged_owner_line r else owned_line r
 
--- a reference count record: how many share the run
+-- a reference count record of shared blocks: its run, and how many owners each block has
 abbrev pub counted_line : Counted → List ℕ
 counted_line r = line_of (codes "shared") (decimal r.run.start.0 ∷ decimal r.run.len ∷ decimal r.count ∷ [])
 
--- or that it is staged
+-- one of staged blocks
 abbrev pub staged_line : Counted → List ℕ
 staged_line r = line_of (codes "staging") (decimal r.run.start.0 ∷ decimal r.run.len ∷ [])
 
+-- a reference count record
 abbrev pub shared_line : Counted → List ℕ
 shared_line r = if r.staged then staged_line r else counted_line r
 

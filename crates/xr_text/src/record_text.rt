@@ -35,7 +35,7 @@ pub(crate) fn push_owner_line(text: &mut String, rev: &Rev) -> Result<(), AllocE
     if owner == OWN_COW {
         writeln!(text, "owner {} {} staging", run.start.0, run.len)?;
     } else {
-        // No tree holds an owner below the first file's number, but any record has a line, so this asks for none.
+        // Any record has a line, also one with an owner below that of the first file, which no tree holds.
         let file = owner.saturating_sub(FIRST_INODE);
         writeln!(text, "owner {} {} {file} {off}", run.start.0, run.len)?;
     }

@@ -1,10 +1,10 @@
-use Rattle.std.proofs.Common.{List, [], ◌∷◌, ◌++◌, drop, ◌∙◌, ap}
+use Rattle.std.proofs.Common.{◌≡◌, List, [], ◌∷◌, ◌++◌, drop, sym, ◌∙◌, ap, subst}
 use Rattle.xr_chain.proofs.DropLemmas.{group_back}
 use Rattle.xr_chain.proofs.GroupRolls.{rolls_group}
-use Rattle.xr_chain.proofs.HeadLemmas.{head_need, of_head, rolls_with}
+use Rattle.xr_chain.proofs.HeadLemmas.{at_head, head_need, of_head, rolls_with}
 use Rattle.xr_chain.specs.ChainView.{group_at}
 use Rattle.xr_chain.specs.Events.{RollsGroup, logged_group}
-use Rattle.xr_chain.specs.GroupWorks.{left_works, part_of_work}
+use Rattle.xr_chain.specs.GroupWorks.{ChangesItsPart, DoesGroupWork, left_works, part_of_work}
 use Rattle.xr_chain.specs.Readiness.{IsGroupReady}
 use Rattle.xr_chain.specs.declared.chain.Need.TheVariants as need
 use Rattle.xr_items.specs.Transactions.{TransView}
@@ -35,3 +35,17 @@ pub returns-clause-kept : goal.returns-clause-kept
 returns-clause-kept c =
     group_back c.args.group.now c.do_group_work-left.new.group c.is_group.ensures c.requires.unchanged (part_of_work c.head-work.result.0) 36
     c.do_group_work-left.ensures.change
+
+pub returns-clause-does : goal.returns-clause-does
+returns-clause-does c =
+    let old = c.args.group.now in
+    let new = c.do_group_work-left.new.group in
+    let asked = ap (λ (t : TransView). t.works) (c.add_done.ensures ∙ ap (λ (t : TransView). record t { done = t.done ++ c.head-work.result.1 ∷ [] }) c.ask_for.ensures) in
+    at_head c.args.self c.head-work.result.0 c.head-work.result.1 c.head-work.ensures.first
+    (λ work. DoesGroupWork old new work c.add_done.new.self.works)
+    (subst (DoesGroupWork old new c.head-work.result.0) (sym (asked ∙ c.works.ensures)) c.do_group_work-left.ensures.does)
+
+pub returns-clause-change : goal.returns-clause-change
+returns-clause-change c =
+    at_head c.args.self c.head-work.result.0 c.head-work.result.1 c.head-work.ensures.first
+    (ChangesItsPart c.args.group.now c.do_group_work-left.new.group) c.do_group_work-left.ensures.change
