@@ -35,12 +35,12 @@ nothing_called disk log = record {
   within = λ states has. nothing_left disk (LeavesWithin (cycle_of log) log.next);
 }
 
-unchanged : (log : Held) → OnlyPacks log log
+pub unchanged : (log : Held) → OnlyPacks log log
 unchanged log = record { uuid = refl; blocks = refl; dirty = refl; table = refl; next = refl; tid = refl; ends_open = refl }
 
-refused : (disk : DiskView) (log : Held) (sectors : ℕ) (fault : LogFault) → HasLogCause sectors 0 disk.faults disk.faults log log fault
-    → ((faults : ℕ) → log.down ≡ Some faults → ◌≡◌ {A = Result (Unit {0}) LogFault} (Err fault) (Err (Down faults))) → IsLogCall {T = Unit {0}} sectors 0 disk disk log log (Err fault)
-refused disk log sectors fault cause down = record {
+pub refused : {T : Type 0} (disk : DiskView) (log : Held) (sectors ids : ℕ) (fault : LogFault) → HasLogCause sectors ids disk.faults disk.faults log log fault
+    → ((faults : ℕ) → log.down ≡ Some faults → ◌≡◌ {A = Result T LogFault} (Err fault) (Err (Down faults))) → IsLogCall {T = T} sectors ids disk disk log log (Err fault)
+refused disk log sectors ids fault cause down = record {
   uuid = refl;
   cycles = (omega arith, omega arith);
   next = (omega arith, omega arith);
@@ -52,7 +52,7 @@ refused disk log sectors fault cause down = record {
   up = tt;
 }
 
-never_some : (log : Held) {T : Type 0} → log.down ≡ None → (faults : ℕ) → log.down ≡ Some faults → T
+pub never_some : (log : Held) {T : Type 0} → log.down ≡ None → (faults : ℕ) → log.down ≡ Some faults → T
 never_some log none faults some = absurd (none_some (sym none ∙ some)) where
   is_none : Option ℕ → Type 0
   is_none None = Unit {0}
@@ -99,7 +99,7 @@ forces_worn disk log up needs = record {
   gives_no_ids = refl;
   covered = tt;
   kept = λ states has. has;
-  call = refused disk log (packed_sectors log.growing.packer) (Worn CYCLES) (refl, inl needs, up, refl) (λ faults is. never_some log up faults is);
+  call = refused disk log (packed_sectors log.growing.packer) 0 (Worn CYCLES) (refl, inl needs, up, refl) (λ faults is. never_some log up faults is);
 }
 
 -- the log is in step with what was written
@@ -145,36 +145,39 @@ covers disk disk' old new (Ok x) w = λ states has.
     (step_written disk' old new states disk s w.step.same (w.kept (current old) s.said old.next states s.keeps refl) w.goes_on)
 covers disk disk' old new (Err e) w = tt
 
-fault_down : (before after : ℕ) (new : Held) (fault : LogFault) → IsDiskFault before after new fault → (faults : ℕ) × (new.down ≡ Some faults)
+pub fault_down : (before after : ℕ) (new : Held) (fault : LogFault) → IsDiskFault before after new fault → (faults : ℕ) × (new.down ≡ Some faults)
 fault_down before after new (DiskFault n) is = (n, is.2)
 fault_down before after new (Worn n) is = absurd is
 fault_down before after new (Down n) is = absurd is
 
+-- a log that is down keeps the states that a crash may leave
+pub down_keeps : (disk disk' : DiskView) (old new : Held) (states : List State) → HasStates disk old states → OnlyPacks old new
+    → RunsOver disk disk' states (cycle_of new) old.next → (faults : ℕ) × (new.down ≡ Some faults) → HasStates disk' new states
+down_keeps disk disk' old new states has same r down = record {
+  older = has.older;
+  ends = has.ends ∙ ap (λ (st : State). has.older ++ st ∷ []) (sym (same_current old new same));
+  now = r.states_run.now;
+  within = subst (λ (n : ℕ). (c : Crash) → disk'.may_leave c → LeavesWithin (cycle_of new) n c) (sym same.next) r.bounds_run.now;
+  image = r.image;
+  told = r.told;
+  rest = λ up. never_some new up down.0 down.1;
+}
+
 keeps : (disk disk' : DiskView) (old new : Held) (result : Result (Unit {0}) LogFault) → WritesPacked disk disk' old new result → OnErr result (KeepsStates disk old disk' new)
 keeps disk disk' old new (Ok x) w = tt
 keeps disk disk' old new (Err e) w = λ states has.
-    let r = runs_of disk disk' old new (Err e) w states has in
-    let down = fault_down disk.faults disk'.faults new e w.step.fault in
-    record {
-      older = has.older;
-      ends = has.ends ∙ ap (λ (st : State). has.older ++ st ∷ []) (sym (same_current old new w.step.same));
-      now = r.states_run.now;
-      within = subst (λ (n : ℕ). (c : Crash) → disk'.may_leave c → LeavesWithin (cycle_of new) n c) (sym w.step.same.next) r.bounds_run.now;
-      image = r.image;
-      told = r.told;
-      rest = λ up. never_some new up down.0 down.1;
-    }
+    down_keeps disk disk' old new states has w.step.same (runs_of disk disk' old new (Err e) w states has) (fault_down disk.faults disk'.faults new e w.step.fault)
 
-cause_of : (sectors : ℕ) (disk disk' : DiskView) (old new : Held) (fault : LogFault) → old.down ≡ None → IsDiskFault disk.faults disk'.faults new fault
-    → HasLogCause sectors 0 disk.faults disk'.faults old new fault
-cause_of sectors disk disk' old new (DiskFault n) up is = (up, is.0, is.1, is.2)
-cause_of sectors disk disk' old new (Worn n) up is = absurd is
-cause_of sectors disk disk' old new (Down n) up is = absurd is
+pub cause_of : (sectors ids : ℕ) (disk disk' : DiskView) (old new : Held) (fault : LogFault) → old.down ≡ None → IsDiskFault disk.faults disk'.faults new fault
+    → HasLogCause sectors ids disk.faults disk'.faults old new fault
+cause_of sectors ids disk disk' old new (DiskFault n) up is = (up, is.0, is.1, is.2)
+cause_of sectors ids disk disk' old new (Worn n) up is = absurd is
+cause_of sectors ids disk disk' old new (Down n) up is = absurd is
 
 causes : (sectors : ℕ) (disk disk' : DiskView) (old new : Held) (result : Result (Unit {0}) LogFault) → old.down ≡ None
     → IfErr result (IsDiskFault disk.faults disk'.faults new) → IfErr result (HasLogCause sectors 0 disk.faults disk'.faults old new)
 causes sectors disk disk' old new (Ok x) up is = tt
-causes sectors disk disk' old new (Err e) up is = cause_of sectors disk disk' old new e up is
+causes sectors disk disk' old new (Err e) up is = cause_of sectors 0 disk disk' old new e up is
 
 on_ok : {T : Type 0} (result : Result (Unit {0}) LogFault) → T → OnOk result T
 on_ok (Ok x) holds = holds

@@ -67,7 +67,7 @@ next_of last next (Done id of) items less all = (less, omega (arith, all))
 next_of last next (Buf sector) items less all = (less, all)
 next_of last next (Inode ino) items less all = (less, all)
 
-last_below : (last next : ℕ) (ls : List Logged) → last < next → next_id (logged_items ls) ≤ next → last_of last ls < next
+pub last_below : (last next : ℕ) (ls : List Logged) → last < next → next_id (logged_items ls) ≤ next → last_of last ls < next
 last_below last next [] less all = less
 last_below last next (l ∷ ls) less all = let h = next_of last next l.item (logged_items ls) less all in last_below (last_after last l.item) next ls h.0 h.1
 

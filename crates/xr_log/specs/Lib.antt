@@ -1,5 +1,10 @@
 pub mod Appending
 pub mod Calls
+pub mod CommitCalls
+pub mod CommitSteps
+pub mod EndedWorks
+pub mod Entering
+pub mod Filling
 pub mod Forces
 pub mod Gathered
 pub mod Held
@@ -7,10 +12,14 @@ pub mod Histories
 pub mod HistoryLaws
 pub mod KeepsNow
 pub mod Layout
+pub mod PendingAfter
+pub mod PlacedWorks
 pub mod Positions
 pub mod Pushes
 pub mod Resumes
 pub mod Slots
 pub mod States
 pub mod TornWrites
+pub mod TransactionItems
+pub mod TransactionPushes
 pub mod Writing

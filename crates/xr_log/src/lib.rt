@@ -1,6 +1,8 @@
 //! The log over a disk: transactions are gathered in memory, and written as records, one after another.
 #![tactic(auto)]
 
+mod committing;
+mod entering;
 mod fault;
 mod forcing;
 mod held;
@@ -9,7 +11,11 @@ mod laying;
 mod layout;
 mod log;
 mod next_head;
+mod packing;
+mod pushing;
 mod resume;
+mod slots;
+mod transaction;
 mod writing;
 
 pub use fault::LogFault;

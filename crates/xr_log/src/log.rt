@@ -1,14 +1,18 @@
-//! The calls of a log that tell, force and leave.
+//! The calls of a log that tell, commit, force and leave.
 ghost use Rattle.std.specs.Prelude.{◌≡◌, ◌↔◌, ℕ, IsTrue, Some};
+ghost use Rattle.xr_log.specs.Calls.{MayCommit};
+ghost use Rattle.xr_log.specs.CommitCalls.{IsCommitCall};
 ghost use Rattle.xr_log.specs.Forces.{Forces, HasNothingPacked, Leaves};
-ghost use Rattle.xr_log.specs.Held.{HasCommitRoom, cycle_of, disk_of, held_of, is_untouched, worn_of};
+ghost use Rattle.xr_log.specs.Held.{HasCommitRoom, cycle_of, disk_of, held_of, is_untouched, placings_of, worn_of};
 
+use crate::committing::commit_held;
 use crate::fault::LogFault;
 use crate::forcing::force_held;
 use crate::held::Log;
 use crate::layout::{COMMIT_SECTORS, WORN_CYCLE, WORN_ID};
 use crate::next_head::leaves_sectors;
 use xr_disk::Disk;
+use xr_items::{Placed, Trans};
 
 impl<D: Disk> Log<D> {
     /// Some exactly where the log is worn: its cycle, or the first worn one where its ids are.
@@ -68,6 +72,18 @@ impl<D: Disk> Log<D> {
     {
         let growing = &self.held.growing;
         !self.held.ends_open && leaves_sectors(&growing.last, COMMIT_SECTORS)
+    }
+
+    /// Commits a transaction, and gives the slots of its new works. It is on the disk with the next force. `Worn` where its
+    /// records would need the cycle that none may have, or its works an id that none may have: then nothing has changed. After
+    /// any other error nothing is committed, and the log is down.
+    pub fn commit(&mut self, trans: &Trans) -> Result<Placed, LogFault>
+        requires may { MayCommit (held_of self.old).uuid (placings_of (held_of self.old)) trans.now }
+        requires room { HasCommitRoom (held_of self.old) }
+        ensures commits { IsCommitCall (D.view (disk_of self.old)) (D.view (disk_of self.new)) (held_of self.old) (held_of self.new) trans.now result }
+        ensures idle { (faults : ℕ) → (held_of self.old).down ≡ Some faults → disk_of self.new ≡ disk_of self.old }
+    {
+        commit_held(&mut self.disk, &mut self.held, trans)
     }
 
     /// Brings what was committed to the disk. `Worn` where a record would need the cycle that none may have: then nothing has
