@@ -335,6 +335,7 @@ fn foreign_blocks_are_named(rt: HostRuntime) -> Result<(), Fail> {
         (529, "foreign 529 13\n"),
         (520, "foreign 520 12\n"),
     ] {
+        assert!(rt; place < BLOCKS);
         assert!(rt; disk.write(place * BLOCK_SECTORS, &[0; BLOCK_BYTES]).is_ok());
         disk = all_answer(&rt, disk, (7, wanted))?;
     }
